@@ -1,0 +1,10 @@
+pub mod Forms
+pub mod Frames
+pub mod Evaluation
+pub mod Expressions
+pub mod Statements
+pub mod Next
+pub mod Typed
+pub mod Allowed
+pub mod Values
+pub mod Shapes

@@ -1,0 +1,16 @@
+-- A form as it is built and as it is matched.
+use Rattle.std.specs.Prelude.{◌≡◌, refl}
+use Rattle.bj_core.specs.declared.types.Span.{Span}
+use Rattle.bj_core.specs.declared.tree.Op.{Op}
+use Rattle.bj_core.specs.declared.tree.Expr.{Expr}
+use Rattle.bj_core.specs.declared.tree.Expr.TheVariants.{IntNegate, IntBinary}
+use Rattle.bj_core.specs.declared.tree.Expr.TheBlock.{shape-the_row-Expr-0, hidden-the_row-Expr-0}
+use Rattle.bj_eval.specs.Forms.{Negate, Binary}
+
+pub IntNegate_is : (at : Span) (a : Expr) → IntNegate at a ≡ Negate at a
+unfolding shape-the_row-Expr-0 hidden-the_row-Expr-0 denote.Hole.Carrier.hidden
+IntNegate_is at a = refl
+
+pub IntBinary_is : (at : Span) (op : Op) (a b : Expr) → IntBinary at op a b ≡ Binary at op a b
+unfolding shape-the_row-Expr-0 hidden-the_row-Expr-0 denote.Hole.Carrier.hidden
+IntBinary_is at op a b = refl

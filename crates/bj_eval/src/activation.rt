@@ -1,0 +1,99 @@
+ghost use Rattle.std.specs.Prelude.{◌≡◌, map, IfOk};
+ghost use Rattle.bj_eval.specs.Frames.{assigned, frame_of, given, start_of};
+
+use bj_core::{Copies, Frame, Local, Locals, NO_CLASS, Name, NoMemory, Seq, Term, Val};
+use std::alloc::Global;
+
+/// A local variable or parameter of a body that runs [JLS 4.12.3].
+#[derive(Drop)]
+pub struct Variable {
+    /// Its name.
+    pub name: Name,
+    /// Its value, if it is assigned.
+    pub value: Option<Val>,
+}
+
+/// The variables of a body, by slot.
+pub type Variables = Seq<Variable>;
+
+/// The activation of a body: what changes while it runs [JLS 15.12.4.5].
+#[derive(Drop)]
+pub struct Activation {
+    /// The class whose method runs; `NO_CLASS` for a term.
+    pub class: u32,
+    /// The method that runs; `NO_CLASS` for a term.
+    pub method: u32,
+    /// The line of the last step point.
+    pub line: u32,
+    /// `this`, or null where there is none.
+    pub this: Val,
+    /// The variables, by slot.
+    pub variables: Variables,
+}
+
+impl Activation {
+    /// Where a term begins: its variables are the names around it.
+    ///
+    /// # Errors
+    ///
+    /// `NoMemory` where there is no room for the variables.
+    pub fn of_term(alloc: Global, term: &Term) -> Result<Activation, NoMemory>
+        ensures { IfOk result (λ a. a ≡ start_of term.now) }
+    {
+        Ok(Activation {
+            class: NO_CLASS,
+            method: NO_CLASS,
+            line: 1,
+            this: Val::Null,
+            variables: variables_of(alloc, term.scope.as_slice())?,
+        })
+    }
+
+    /// The frame that a debugger shows of it.
+    ///
+    /// # Errors
+    ///
+    /// `NoMemory` where there is no room for the frame.
+    pub fn shown(&self, alloc: Global) -> Result<Frame, NoMemory>
+        ensures { IfOk result (λ f. f ≡ frame_of self.now) }
+    {
+        Ok(Frame {
+            class: self.class,
+            method: self.method,
+            line: self.line,
+            this: self.this,
+            locals: assigned_of(alloc, self.variables.as_slice())?,
+        })
+    }
+}
+
+/// The variables that names with values are.
+fn variables_of(alloc: Global, scope: &[Local]) -> Result<Variables, NoMemory>
+    ensures { IfOk result (λ vs. vs ≡ map given scope.now) }
+{
+    let mut variables = Seq::new(alloc);
+    for local in scope {
+        variables.push(Variable {
+            name: local.name.copy(alloc)?,
+            value: Some(local.value),
+        })?;
+    }
+    Ok(variables)
+}
+
+/// The variables that are assigned.
+fn assigned_of(alloc: Global, variables: &[Variable]) -> Result<Locals, NoMemory>
+    ensures { IfOk result (λ ls. ls ≡ assigned variables.now) }
+{
+    let mut locals = Seq::new(alloc);
+    for variable in variables {
+        match variable.value {
+            None => {}
+            Some(value) => locals.push(Local {
+                name: variable.name.copy(alloc)?,
+                value,
+            })?,
+        }
+    }
+    Ok(locals)
+}

@@ -1,0 +1,387 @@
+ghost use Rattle.std.specs.Prelude.{◌≡◌, ◌∷◌, [], ◌≤◌, ◌<◌, ℕ, List, IfOk, OnOk, OnErr, IsSome, is_some, Some, None, Err, true, false};
+ghost use Rattle.bj_core.specs.declared.action.Action.TheVariants.{End};
+ghost use Rattle.bj_core.specs.declared.action.Answer.{Answer as AnswerOf};
+ghost use Rattle.bj_core.specs.declared.action.Done.{Done as DoneOf};
+ghost use Rattle.bj_core.specs.declared.entry.Entry.TheVariants as entry;
+ghost use Rattle.bj_core.specs.declared.frame.Term.{Term};
+ghost use Rattle.bj_eval.specs.Typed.{IsTyped};
+ghost use Rattle.bj_exec.specs.Follows.{Follows, IsOn};
+ghost use Rattle.bj_machine.specs.World.{World, is_enabled, next_action, react};
+ghost use Rattle.bj_machine.specs.Shown.{Stands, IsFresh, IsReady, IsSettled, HasMoved, HasBegun, Steps, Finishes, setting_of, end_in, end_of, enabled_list, rests, rests_main, can_step, with_entry};
+
+use crate::Log;
+use bj_code::Code;
+use bj_core::{Action, Answer, Done, Entry, Limits, NoMemory, Program, Term};
+use bj_exec::{Thread, Want};
+use bj_gen::generate_term;
+use std::alloc::Global;
+use std::marker::Model;
+
+/// What a step did.
+#[derive(Clone, Copy, Debug, PartialEq, Eq)]
+pub enum Step {
+    /// The thread's next action, which is the entry at this place of the log, from 1.
+    Acted { thread: u32, place: u64 },
+    /// An instruction of the thread that asks for nothing.
+    Moved { thread: u32 },
+    /// Nothing: no thread is enabled.
+    Idle,
+    /// Nothing: as many actions as the limit were done.
+    Spent { count: u64 },
+    /// Nothing, for want of memory.
+    NoMemory,
+}
+
+/// Why a term does not begin.
+#[derive(Clone, Copy, Debug, PartialEq, Eq)]
+pub enum BeginFault {
+    /// The main thread has not ended its term.
+    Busy,
+    /// Want of memory.
+    NoMemory,
+}
+
+/// The machine.
+#[derive(Drop)]
+pub struct Machine {
+    program: Program,
+    code: Code,
+    limits: Limits,
+    log: Log,
+    main: Option<Thread>,
+    acts: u64,
+    alloc: Global,
+}
+
+impl Model for Machine {
+    ghost use Rattle.bj_machine.specs.Shown.{Shown};
+    ghost use Rattle.bj_core.specs.contracts.tree.Expr as expr;
+    ghost use Rattle.bj_core.specs.contracts.tree.Stmt as stmt;
+    ghost use Rattle.std.specs.Coded.{codes};
+
+    ghost Value = { Shown };
+
+    ghost coded = { Prim.hlevel (codes, expr.the_row.coded, stmt.the_row.coded) };
+
+    ghost use Rattle.bj_machine.specs.Shown.{IsSound};
+
+    ghost view = { λ m. record { program = m.program; code = m.code; limits = m.limits; log = m.log; main = m.main; acts = m.acts } };
+
+    ghost invariant = { λ m. IsSound (record { program = m.program; code = m.code; limits = m.limits; log = m.log; main = m.main; acts = m.acts }) };
+}
+
+/// How a term is over by an action, where that is its end.
+fn end_in(action: &Action) -> Option<Done>
+    ensures { result ≡ end_in (Some action.now) }
+{
+    match action {
+        Action::End { done } => Some(*done),
+        _ => None,
+    }
+}
+
+/// The number of the main thread.
+const MAIN: u32 = 1;
+
+/// The entry of an action of the main thread.
+fn act_entry(answer: Answer) -> Entry
+    ensures { result ≡ entry.Act 1 answer }
+{
+    Entry::Act {
+        thread: MAIN,
+        answer,
+    }
+}
+
+/// Lets a thread go. Its drop stands here alone, so that no caller's proof goes through it.
+fn dismiss(_thread: Option<Thread>) {}
+
+/// Lets an action go, as `dismiss` does a thread.
+fn let_go(_action: Action) {}
+
+/// The thread does its instructions that ask for nothing, up to its next action.
+fn settle_thread(
+    alloc: Global,
+    thread: &mut Thread,
+    program: &Program,
+    code: &Code,
+) -> Result<(), NoMemory>
+    requires { IsOn program.now code.now thread.old }
+    ensures follows { (limit : ℕ) (term : Term) (answers : List AnswerOf) → Follows program.now code.now limit term answers thread.old → Follows program.now code.now limit term answers thread.new }
+    ensures settled { OnOk result (rests thread.new.run.want ≡ true) }
+{
+    'moves: loop {
+        match thread.want() {
+            Want::Move => {}
+            Want::Do(_) => return Ok(()),
+            Want::Over(_) => return Ok(()),
+        }
+        match thread.advance(alloc, program, code) {
+            Ok(()) => {}
+            Err(_) => return Err(NoMemory),
+        }
+    }
+}
+
+/// What the store answers to an action, or None where it is blocked. Further actions are not built.
+fn react(action: &Action) -> Option<Answer>
+    ensures { result ≡ react action.now }
+{
+    match action {
+        Action::Point(_) => Some(Answer::Done),
+        Action::End { done: _ } => Some(Answer::Done),
+        _ => None,
+    }
+}
+
+impl Machine {
+    /// A machine whose main thread has no term.
+    ///
+    /// # Errors
+    ///
+    /// `NoMemory` where there is no room for its store.
+    pub fn new(
+        alloc: Global,
+        program: Program,
+        code: Code,
+        limits: Limits,
+    ) -> Result<Machine, NoMemory>
+        ensures { IfOk result (λ m. IsFresh program limits m) }
+    {
+        Ok(Machine {
+            program,
+            code,
+            limits,
+            log: Log::new(alloc),
+            main: None,
+            acts: 0,
+            alloc,
+        })
+    }
+
+    /// The log.
+    pub fn log(&self) -> &Log
+        ensures { result.now ≡ self.now.log }
+    {
+        &self.log
+    }
+
+    /// The log, where the machine is done with.
+    pub fn into_log(self) -> Log
+        ensures { result ≡ self.log }
+    {
+        let Machine {
+            program: _,
+            code: _,
+            limits: _,
+            log,
+            main: _,
+            acts: _,
+            alloc: _,
+        } = self;
+        log
+    }
+
+    /// Whether the main thread has not ended its term.
+    pub fn is_busy(&self) -> bool
+        ensures { (w : World) → Stands self.now w → result ≡ is_some w.main }
+    {
+        self.main.is_some()
+    }
+
+    /// Whether as many actions as the limit were done.
+    pub fn is_spent(&self) -> bool
+        ensures spent { result ≡ true → self.now.limits.acts ≤ self.now.acts }
+        ensures left { result ≡ false → self.now.acts < self.now.limits.acts }
+    {
+        self.acts == self.limits.acts
+    }
+
+    /// Whether the main thread wants an instruction, or an action that is not blocked.
+    fn can_step(&self) -> bool
+        ensures can { result ≡ can_step self.now.main }
+        ensures settled { IsSettled self.now → (w : World) → Stands self.now w → result ≡ is_enabled (setting_of self.now) w }
+    {
+        match &self.main {
+            None => false,
+            Some(thread) => match thread.want() {
+                Want::Move => true,
+                Want::Do(action) => react(action).is_some(),
+                Want::Over(_) => true,
+            },
+        }
+    }
+
+    /// The numbers of the threads that are enabled, ascending. Takes no memory.
+    pub fn enabled(&self) -> &[u32]
+        ensures moving { rests_main self.now.main ≡ false → result.now ≡ 1 ∷ [] }
+        ensures settled { IsSettled self.now → (w : World) → Stands self.now w → result.now ≡ enabled_list (is_enabled (setting_of self.now) w) }
+    {
+        if self.can_step() { &[1] } else { &[] }
+    }
+
+    /// How the main thread's term is over, where its end is its next action.
+    pub fn end(&self) -> Option<Done>
+        ensures end { result ≡ end_of self.now.main }
+        ensures next { (done : DoneOf) → result ≡ Some done → (w : World) → Stands self.now w → next_action (setting_of self.now) w ≡ Some (End done) }
+    {
+        match &self.main {
+            None => None,
+            Some(thread) => match thread.want() {
+                Want::Move => None,
+                Want::Do(action) => end_in(action),
+                Want::Over(done) => Some(*done),
+            },
+        }
+    }
+
+    /// A thread that is about to begin with a term, which changes nothing yet.
+    ///
+    /// # Errors
+    ///
+    /// `NoMemory` where there is no room for its code or its frame.
+    pub fn prepare(&self, term: Term) -> Result<Thread, NoMemory>
+        requires { IsTyped self.now.program term }
+        ensures { IfOk result (λ thread. IsReady self.now term thread) }
+    {
+        let body = generate_term(self.alloc, &self.program, &term)?;
+        let thread = Thread::start(self.alloc, term, body, self.limits.frames)?;
+        Ok(thread)
+    }
+
+    /// The main thread begins with a term for which a thread was prepared. Takes no memory.
+    pub fn begin_with(&mut self, thread: Thread)
+        requires { (term : Term) × IsReady self.old term thread }
+        ensures { (term : Term) → IsReady self.old term thread → HasBegun self.old self.new term }
+    {
+        dismiss(std::mem::replace(&mut self.main, Some(thread)));
+    }
+
+    /// The main thread begins with a term.
+    ///
+    /// # Errors
+    ///
+    /// `Busy` exactly where the main thread has not ended its term; `NoMemory`. Both leave the machine as it was.
+    pub fn begin(&mut self, term: Term) -> Result<(), BeginFault>
+        requires { IsTyped self.old.program term }
+        ensures begun { OnOk result (HasBegun self.old self.new term) }
+        ensures free { OnOk result (self.old.main ≡ None) }
+        ensures busy { result ≡ Err BeginFault.Busy → IsSome self.old.main }
+        ensures err { OnErr result (self.new ≡ self.old) }
+    {
+        if self.main.is_some() {
+            return Err(BeginFault::Busy);
+        }
+        match self.prepare(term) {
+            Ok(thread) => {
+                self.begin_with(thread);
+                Ok(())
+            }
+            Err(NoMemory) => Err(BeginFault::NoMemory),
+        }
+    }
+
+    /// Adds an entry to the log, which changes no thread.
+    ///
+    /// # Errors
+    ///
+    /// `NoMemory`, with the machine as before.
+    pub fn note(&mut self, entry: Entry) -> Result<(), NoMemory>
+        ensures ok { OnOk result (self.new ≡ with_entry entry self.old) }
+        ensures err { OnErr result (self.new ≡ self.old) }
+    {
+        self.log.push(entry)
+    }
+
+    /// The main thread does its instructions that ask for nothing, up to its next action. The log stays.
+    ///
+    /// # Errors
+    ///
+    /// `NoMemory`, with a part of them done.
+    pub fn settle(&mut self) -> Result<(), NoMemory>
+        ensures moved { HasMoved self.old self.new }
+        ensures settled { OnOk result (IsSettled self.new) }
+    {
+        match &mut self.main {
+            None => Ok(()),
+            Some(thread) => settle_thread(self.alloc, thread, &self.program, &self.code),
+        }
+    }
+
+    /// One instruction of the main thread, which is enabled.
+    fn instruct(&mut self) -> Step
+        requires enabled { can_step self.old.main ≡ true }
+        requires left { self.old.acts < self.old.limits.acts }
+        ensures { Steps result self.old self.new }
+    {
+        match self.end() {
+            Some(_) => self.finish(),
+            None => self.go_on(),
+        }
+    }
+
+    /// One instruction of the main thread, or its next action, which is no end.
+    fn go_on(&mut self) -> Step
+        requires goes { end_of self.old.main ≡ None }
+        requires enabled { can_step self.old.main ≡ true }
+        requires left { self.old.acts < self.old.limits.acts }
+        ensures { Steps result self.old self.new }
+    {
+        let Some(thread) = &mut self.main else {
+            unreachable!()
+        };
+        match thread.want() {
+            Want::Move => match thread.advance(self.alloc, &self.program, &self.code) {
+                Ok(()) => Step::Moved { thread: MAIN },
+                Err(_) => Step::NoMemory,
+            },
+            Want::Do(action) => {
+                let Some(answer) = react(action) else {
+                    unreachable!()
+                };
+                match self.log.push(act_entry(answer)) {
+                    Ok(()) => {}
+                    Err(_) => return Step::NoMemory,
+                }
+                let_go(thread.answer(answer));
+                self.acts += 1;
+                Step::Acted {
+                    thread: MAIN,
+                    place: self.log.len(),
+                }
+            }
+            Want::Over(_) => unreachable!(),
+        }
+    }
+
+    /// The end of the main thread's term.
+    fn finish(&mut self) -> Step
+        requires ends { Finishes self.old }
+        requires left { self.old.acts < self.old.limits.acts }
+        ensures { Steps result self.old self.new }
+    {
+        match self.log.push(act_entry(Answer::Done)) {
+            Ok(()) => {}
+            Err(_) => return Step::NoMemory,
+        }
+        dismiss(std::mem::replace(&mut self.main, None));
+        self.acts += 1;
+        Step::Acted {
+            thread: MAIN,
+            place: self.log.len(),
+        }
+    }
+
+    /// One instruction of the main thread.
+    pub fn step(&mut self) -> Step
+        ensures { Steps result self.old self.new }
+    {
+        if !self.can_step() {
+            return Step::Idle;
+        }
+        if self.acts == self.limits.acts {
+            return Step::Spent { count: self.acts };
+        }
+        self.instruct()
+    }
+}

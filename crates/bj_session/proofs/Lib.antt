@@ -1,0 +1,10 @@
+pub mod Parts
+pub mod Readers
+pub mod Notes
+pub mod Overs
+pub mod Turns
+pub mod Steps
+pub mod Entries
+pub mod Answering
+pub mod Acting
+pub mod Sums

@@ -1,0 +1,82 @@
+-- The machine's history, and what is written of it.
+use Rattle.std.specs.Prelude.{ℕ, ◌≡◌, ◌≤◌, ◌<◌, ◌⊎◌, Bool, true, false, List, [], ◌∷◌, ◌++◌, Option, Some, None}
+use Rattle.bj_io.specs.Told.{behind, Rose}
+use Rattle.bj_core.specs.declared.entry.Entry.{Entry}
+use Rattle.bj_core.specs.declared.entry.Entry.TheVariants.{Line, Act}
+use Rattle.bj_core.specs.declared.entry.Reason.{Reason}
+use Rattle.bj_core.specs.declared.action.Answer.{Answer}
+use Rattle.bj_core.specs.declared.action.Done.{Done}
+use Rattle.bj_history.specs.declared.opening.Opening.{Opening}
+use Rattle.bj_history.specs.declared.opening.Wait.{Wait}
+use Rattle.bj_history.specs.Events.{done_event}
+use Rattle.bj_history.specs.History.{after, setting, Legal, May, written, printed, Wakes, HasHadATurn, has_quit, wants_pause}
+use Rattle.bj_history.specs.Replies.{IsReply}
+use Rattle.bj_machine.specs.World.{World, is_enabled}
+use Rattle.bj_machine.specs.Shown.{Shown, Stands, setting_of}
+use Rattle.bj_session.specs.declared.sending.Sent.{Sent}
+use Rattle.bj_session.specs.declared.sending.Sent.TheVariants.{All, Failed}
+use Rattle.bj_session.specs.declared.desk.Decision.{Decision}
+use Rattle.bj_session.specs.declared.desk.Decision.TheVariants.{Wake, Act as Acts, NoMemory}
+
+pub record Desk : Type 0 where
+  pub opening : Opening
+  pub log : List Entry
+  pub held : Option (List ℕ)
+  pub faults : ℕ
+
+abbrev pub fresh_desk : Opening → Option (List ℕ) → ℕ → Desk
+fresh_desk opening held faults = record { opening = opening; log = []; held = held; faults = faults }
+
+-- the abstract machine where the history leaves it
+abbrev pub world_of : Desk → World
+world_of d = (after d.opening d.log).world
+
+-- the machine is where its history leaves it, and that is legal
+pub record IsKept (opening : Opening) (m : Shown) (wait : Option Wait) : Type 0 where
+  pub legal : Legal opening m.log
+  pub stands : Stands m (after opening m.log).world
+  pub waits : (after opening m.log).wait ≡ wait
+  pub setting : setting_of m ≡ setting opening
+
+-- an entry was added and what it prints was sent; but for All the entry or a part may be missing
+pub record HasNoted (answer : Sent) (entry : Entry) (old new : Desk) : Type 0 where
+  pub sent : List ℕ
+  pub unsent : List ℕ
+  pub opening : new.opening ≡ old.opening
+  pub log : (new.log ≡ entry ∷ old.log) ⊎ (new.log ≡ old.log)
+  pub parts : written old.opening old.log ++ (sent ++ unsent) ≡ written old.opening new.log
+  pub held : new.held ≡ behind old.held sent
+  pub all : answer ≡ All → (new.log ≡ entry ∷ old.log) × (unsent ≡ [])
+  pub silent : new.log ≡ entry ∷ old.log → printed old.opening (after old.opening old.log) entry ≡ [] → answer ≡ All
+  pub faults : old.faults ≤ new.faults
+  pub failed : answer ≡ Failed → Rose old.faults new.faults
+
+-- a line may come next
+pub record MayTake (o : Opening) (front : List Entry) : Type 0 where
+  pub closed : (after o front).wait ≡ None
+  pub goes_on : has_quit front ≡ false
+  pub paused : wants_pause front ≡ false
+  pub turn : HasHadATurn o front
+
+-- a line was noted, with a reply that is its own
+pub record HasLined (answer : Sent) (line : List ℕ) (old new : Desk) : Type 0 where
+  pub text : List ℕ
+  pub replied : IsReply (world_of old) line text
+  pub noted : HasNoted answer (Line line text) old new
+
+-- why the open wait ends, or that the main thread can act
+abbrev pub IsDecided : Decision → Desk → Type 0
+IsDecided (Wake reason) d = Wakes d.opening (world_of d) reason
+IsDecided Acts d = (is_enabled (setting d.opening) (world_of d) ≡ true) × ((world_of d).acts < d.opening.limits.acts)
+IsDecided NoMemory d = Unit {0}
+
+-- the event of the end of a term, if it has ended
+abbrev pub end_event : Option Done → List ℕ
+end_event None = []
+end_event (Some done) = done_event done
+
+-- the main thread's next action was done
+pub record HasActed (answer : Sent) (old new : Desk) : Type 0 where
+  pub reply : Answer
+  pub may : May old.opening old.log (Act 1 reply)
+  pub noted : HasNoted answer (Act 1 reply) old new

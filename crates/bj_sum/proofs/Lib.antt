@@ -1,0 +1,6 @@
+pub mod Turns
+pub mod LexTurns
+pub mod Sound
+pub mod Complete
+pub mod LexSound
+pub mod Wholes

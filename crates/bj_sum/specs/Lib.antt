@@ -1,0 +1,5 @@
+pub mod Lexical
+pub mod Lexing
+pub mod Grammar
+pub mod Reading
+pub mod Sums

@@ -1,0 +1,5 @@
+use Rattle.bj_text.proofs.Wraps.{quotient_is-int}
+use Rattle.bj_text.proofs.arith.int_quotient.Goals as goal
+
+pub returns : goal.returns
+returns c = quotient_is-int c.args.a c.args.b c.wrapping_div.result c.ranges.a c.ranges.b (record { sfits = c.wrapping_div.type_inv }) c.wrapping_div.ensures c.if-b-eq0.false
