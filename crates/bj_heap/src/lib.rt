@@ -1,0 +1,11 @@
+//! The heap: objects by number, and the values of their cells.
+#![tactic(auto)]
+
+mod fault;
+mod header;
+mod heap;
+#[cfg(test)]
+mod tests;
+
+pub use fault::HeapFault;
+pub use heap::{Heap, cells_are_a_map};
