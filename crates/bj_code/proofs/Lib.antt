@@ -1,1 +1,3 @@
 pub mod Stacks
+pub mod Blocks
+pub mod Calls

@@ -1,3 +1,5 @@
 pub mod Stack
 pub mod Step
+pub mod Calling
 pub mod TermCode
+pub mod ProgramCode

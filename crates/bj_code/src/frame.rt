@@ -1,11 +1,13 @@
 use crate::Operands;
-use bj_eval::Activation;
+use bj_eval::{Activation, Invocation};
 
-/// A body that runs: its activation, the place of its next instruction, and its operands. While it asks for an action or
-/// calls another body, the instruction that does so is the one before.
+/// A body that runs: which one, its activation, the place of its next instruction, and its operands. While it asks for an
+/// action or calls another body, the instruction that does so is the one before.
 #[derive(Drop)]
 pub struct CallFrame {
-    /// What a debugger sees of it.
+    /// Which body runs.
+    pub invocation: Invocation,
+    /// What changes of what a debugger sees.
     pub activation: Activation,
     /// The place of the next instruction.
     pub place: usize,

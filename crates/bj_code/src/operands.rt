@@ -1,4 +1,4 @@
-ghost use Rattle.std.specs.Prelude.{◌≡◌, List, [], ◌∷◌, ◌<◌, ◌≤◌, length, IfOk, MatchOption};
+ghost use Rattle.std.specs.Prelude.{◌≡◌, List, [], ◌∷◌, ◌<◌, ◌≤◌, length, take, drop, reverse, slice_get, IfOk, MatchOption};
 ghost use Rattle.bj_code.specs.Stack.{Stack};
 
 use bj_core::{NoMemory, Val};
@@ -64,6 +64,32 @@ impl Operands {
         }
         self.count -= 1;
         self.items.get(self.count).copied()
+    }
+
+    /// The operand below as many others, or None where there is none.
+    pub fn below(&self, others: usize) -> Option<Val>
+        ensures { result ≡ slice_get self.now.values others }
+    {
+        if others >= self.count {
+            return None;
+        }
+        self.items.get(self.count - 1 - others).copied()
+    }
+
+    /// The topmost operands, the lowest of them first.
+    pub fn top(&self, count: usize) -> &[Val]
+        requires { count ≤ length self.now.values }
+        ensures { result.now ≡ reverse (take count self.now.values) }
+    {
+        &self.items.as_slice()[self.count - count..self.count]
+    }
+
+    /// Takes as many operands off.
+    pub fn drop_top(&mut self, count: usize)
+        requires { count ≤ length self.old.values }
+        ensures { self.new ≡ record { values = drop count self.old.values; room = self.old.room } }
+    {
+        self.count -= count;
     }
 
     /// Takes all operands off.

@@ -1,3 +1,12 @@
 pub mod Integers
-pub mod Shown
+pub mod Holding
+pub mod Safety
+pub mod Rows
+pub mod Expressions
+pub mod Statements
+pub mod Wider
+pub mod Bodies
 pub mod Sound
+pub mod Firsts
+pub mod Shown
+pub mod Answers

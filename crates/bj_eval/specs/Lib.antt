@@ -1,10 +1,14 @@
 pub mod Forms
 pub mod Frames
 pub mod Evaluation
+pub mod Routines
 pub mod Expressions
 pub mod Statements
+pub mod Entering
 pub mod Next
+pub mod Fields
 pub mod Typed
 pub mod Allowed
 pub mod Values
 pub mod Shapes
+pub mod Terms

@@ -1,5 +1,5 @@
 -- What a term wants next, after the answers that it was given.
-use Rattle.std.specs.Prelude.{ℕ, List, [], ◌∷◌, Option, Some, None}
+use Rattle.std.specs.Prelude.{ℕ, ◌-◌, List, [], ◌∷◌, Option, Some, None}
 use Rattle.bj_core.specs.declared.frame.Frame.{Frame}
 use Rattle.bj_core.specs.declared.frame.Term.{Term}
 use Rattle.bj_core.specs.declared.program.Program.{Program}
@@ -9,9 +9,10 @@ use Rattle.bj_core.specs.declared.action.Answer.{Answer}
 use Rattle.bj_core.specs.declared.action.Done.{Done}
 use Rattle.bj_core.specs.declared.action.Done.TheVariants as done
 use Rattle.bj_eval.specs.declared.activation.Activation.{Activation}
-use Rattle.bj_eval.specs.Frames.{frame_of, start_of, no_class}
-use Rattle.bj_eval.specs.Evaluation.{Context, Way, Fine, Gives, Throws, Returns, Result, Went, Wants, Wrong, Unfit}
+use Rattle.bj_eval.specs.Frames.{frame_of, invocation_of_term, start_of}
+use Rattle.bj_eval.specs.Evaluation.{Context, Fine, Gives, Throws, Returns, Result, Went, Wants, Wrong, Unfit}
 use Rattle.bj_eval.specs.Statements.{stmt}
+use Rattle.bj_eval.specs.Entering.{enter}
 
 -- an action, and the frames of the thread that wants it, the newest first
 pub record Asked : Type 0 where
@@ -27,7 +28,7 @@ pub data Outcome : Type 0 where
 
 -- the end of a term, which asks for no answer
 abbrev pub over_in : Done → Activation → List Answer → Outcome
-over_in d s [] = Over d (frame_of s ∷ [])
+over_in d s [] = Over d (frame_of invocation_of_term s ∷ [])
 over_in d s (x ∷ xs) = Lost
 
 abbrev pub outcome_of : Result → Outcome
@@ -40,9 +41,9 @@ outcome_of (Wants a fs) = Asks a fs
 outcome_of Wrong = Lost
 outcome_of Unfit = Misfit
 
--- around a term there are no frames
+-- around a term there are no frames, and its own is the first of at most so many
 abbrev pub outermost : Program → ℕ → Context
-outermost program limit = record { program = program; limit = limit; class = no_class; outer = [] }
+outermost program limit = record { program = program; invocation = invocation_of_term; outer = []; call = enter (limit - 1) program }
 
 abbrev pub outcome : Program → ℕ → Term → List Answer → Outcome
 outcome program limit term answers = outcome_of (stmt (outermost program limit) term.body (start_of term) answers)

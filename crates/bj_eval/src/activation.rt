@@ -1,7 +1,8 @@
 ghost use Rattle.std.specs.Prelude.{◌≡◌, map, IfOk};
-ghost use Rattle.bj_eval.specs.Frames.{assigned, frame_of, given, start_of};
+ghost use Rattle.bj_eval.specs.Frames.{activation, assigned, frame_of, given, parameters, start_of};
 
-use bj_core::{Copies, Frame, Local, Locals, NO_CLASS, Name, NoMemory, Seq, Term, Val};
+use crate::Invocation;
+use bj_core::{Copies, Frame, Local, Locals, Name, NoMemory, Seq, Term, Val};
 use std::alloc::Global;
 
 /// A local variable or parameter of a body that runs [JLS 4.12.3].
@@ -19,14 +20,8 @@ pub type Variables = Seq<Variable>;
 /// The activation of a body: what changes while it runs [JLS 15.12.4.5].
 #[derive(Drop)]
 pub struct Activation {
-    /// The class whose method runs; `NO_CLASS` for a term.
-    pub class: u32,
-    /// The method that runs; `NO_CLASS` for a term.
-    pub method: u32,
     /// The line of the last step point.
     pub line: u32,
-    /// `this`, or null where there is none.
-    pub this: Val,
     /// The variables, by slot.
     pub variables: Variables,
 }
@@ -41,11 +36,27 @@ impl Activation {
         ensures { IfOk result (λ a. a ≡ start_of term.now) }
     {
         Ok(Activation {
-            class: NO_CLASS,
-            method: NO_CLASS,
             line: 1,
-            this: Val::Null,
             variables: variables_of(alloc, term.scope.as_slice())?,
+        })
+    }
+
+    /// Where a body of a class begins, at the line, whose parameters have these values [JLS 15.12.4.5].
+    ///
+    /// # Errors
+    ///
+    /// `NoMemory` where there is no room for the variables.
+    pub fn of_body(
+        alloc: Global,
+        line: u32,
+        params: &[Name],
+        values: &[Val],
+    ) -> Result<Activation, NoMemory>
+        ensures { IfOk result (λ a. a ≡ activation line params.now values.now) }
+    {
+        Ok(Activation {
+            line,
+            variables: parameters_of(alloc, params, values)?,
         })
     }
 
@@ -54,17 +65,31 @@ impl Activation {
     /// # Errors
     ///
     /// `NoMemory` where there is no room for the frame.
-    pub fn shown(&self, alloc: Global) -> Result<Frame, NoMemory>
-        ensures { IfOk result (λ f. f ≡ frame_of self.now) }
+    pub fn shown(&self, alloc: Global, invocation: Invocation) -> Result<Frame, NoMemory>
+        ensures { IfOk result (λ f. f ≡ frame_of invocation self.now) }
     {
         Ok(Frame {
-            class: self.class,
-            method: self.method,
+            class: invocation.class,
+            method: invocation.method,
             line: self.line,
-            this: self.this,
+            this: invocation.this,
             locals: assigned_of(alloc, self.variables.as_slice())?,
         })
     }
+}
+
+/// The parameters of a body, each with its value, if there is one for it.
+fn parameters_of(alloc: Global, params: &[Name], values: &[Val]) -> Result<Variables, NoMemory>
+    ensures { IfOk result (λ vs. vs ≡ parameters params.now values.now) }
+{
+    let mut variables = Seq::new(alloc);
+    for (slot, name) in params.iter().enumerate() {
+        variables.push(Variable {
+            name: name.copy(alloc)?,
+            value: values.get(slot).copied(),
+        })?;
+    }
+    Ok(variables)
 }
 
 /// The variables that names with values are.

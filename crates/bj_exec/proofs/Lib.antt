@@ -1,8 +1,12 @@
 pub mod Runs
 pub mod Exprs
+pub mod Stmts
+pub mod Calls
 pub mod Terms
 pub mod Threads
+pub mod Below
+pub mod Shapes
+pub mod Steps
+pub mod Plain
 pub mod Nearer
 pub mod Follow
-pub mod Steps
-pub mod Below

@@ -1,7 +1,10 @@
-ghost use Rattle.std.specs.Prelude.{◌≡◌, [], length, slice_get};
+ghost use Rattle.std.specs.Prelude.{◌≡◌, ◌+◌, ◌<◌, ◌^◌, [], ◌∷◌, length, slice_get, Some, MatchOption, OnOk, OnErr};
 ghost use Rattle.std.specs.Option.{option_copied};
+ghost use Rattle.bj_code.specs.Calling.{Call};
+ghost use Rattle.bj_code.specs.Calling as calls;
 
-use bj_code::CallFrame;
+use bj_code::{CallFrame, Instr, leave_arguments};
+use bj_core::NoMemory;
 use sqlite_items::at;
 use std::alloc::Global;
 use std::marker::Model;
@@ -48,4 +51,41 @@ impl CallFrames {
         }
         at(self.items.as_slice(), count - 1 - depth)
     }
+
+    /// Puts a frame on top of the topmost one, which has called it by an instruction: that one goes on behind the call, and
+    /// is the newest of these frames. The room is made first, and nothing fails behind it.
+    ///
+    /// # Errors
+    ///
+    /// `NoMemory`, with the frames and the topmost one as before.
+    pub(crate) fn enter(
+        &mut self,
+        top: &mut CallFrame,
+        instr: Instr,
+        called: CallFrame,
+    ) -> Result<(), NoMemory>
+        requires room { top.old.place + 1 < 2 ^ 64 }
+        requires calls { (c : Call) × (calls.call instr top.old ≡ Some c) }
+        ensures below { OnOk result ((c : Call) → calls.call instr top.old ≡ Some c → self.new ≡ c.caller ∷ self.old) }
+        ensures top { OnOk result (top.new ≡ called) }
+        ensures err { OnErr result ((self.new ≡ self.old) × (top.new ≡ top.old)) }
+    {
+        if self.items.reserve(1).is_err() {
+            dismiss(called);
+            return Err(NoMemory);
+        }
+        leave_arguments(top, instr);
+        self.items.push_reserved(std::mem::replace(top, called));
+        Ok(())
+    }
+
+    /// Takes the newest frame off, if there is one.
+    pub(crate) fn pop(&mut self) -> Option<CallFrame>
+        ensures { MatchOption result ((self.old ≡ []) × (self.new ≡ [])) (λ newest. self.old ≡ newest ∷ self.new) }
+    {
+        self.items.pop()
+    }
 }
+
+/// Lets a frame go.
+pub(crate) fn dismiss(_frame: CallFrame) {}

@@ -1,7 +1,10 @@
 //! A Java thread: it runs the code of its term, and asks for one action after another.
 #![tactic(auto)]
 
+mod advancing;
+mod answering;
 mod frames;
+mod leaving;
 mod run;
 mod thread;
 

@@ -1,4 +1,5 @@
-ghost use Rattle.std.specs.Prelude.{◌≡◌, ℕ, List, [], ◌∷◌, ◌++◌, ◌<◌, Some, IfOk, OnOk, OnErr};
+ghost use Rattle.std.specs.Prelude.{◌≡◌, ℕ, List, [], ◌∷◌, ◌++◌, ◌<◌, ◌≤◌, Some, IfOk, OnOk, OnErr};
+ghost use Rattle.bj_code.specs.ProgramCode.{program_code};
 ghost use Rattle.bj_code.specs.TermCode.{term_code};
 ghost use Rattle.bj_code.specs.declared.code.Code.{Code};
 ghost use Rattle.bj_core.specs.declared.action.Action.{Action};
@@ -13,11 +14,13 @@ ghost use Rattle.bj_eval.specs.Typed.{IsTyped};
 ghost use Rattle.bj_exec.specs.Follows.{Follows, IsOn, Awaits};
 ghost use Rattle.bj_exec.specs.Machine.{frames_of, moves_left};
 
-use crate::run::{advance_run, answer_run, shown_of};
+use crate::advancing::advance_run;
+use crate::answering::answer_run;
+use crate::run::shown_of;
 use crate::{CallFrames, Run, Want};
 use bj_code::{CallFrame, Code, CodeBody, Operands};
 use bj_core::{Action, Answer, Frames, NoMemory, Program, Term};
-use bj_eval::Activation;
+use bj_eval::{Activation, Invocation, typed_terms_go_on};
 use std::alloc::Global;
 
 /// A Java thread, which runs a term.
@@ -34,17 +37,19 @@ pub struct Thread {
 }
 
 impl Thread {
-    /// A thread that begins with a term, whose code is the body, and may have so many frames. Over each program over
-    /// which the term is typed, it follows the term.
+    /// A thread that begins with a term, and may have so many frames. Over each program over which the term is typed, and of
+    /// which the body is the term's code, it follows the term.
     ///
     /// # Errors
     ///
     /// `NoMemory` where there is no room for the term's frame.
     pub fn start(alloc: Global, term: Term, body: CodeBody, frames: u32) -> Result<Thread, NoMemory>
-        requires { body ≡ term_code term }
-        ensures { IfOk result (λ t. (program : Program) (code : Code) → IsTyped program term → Follows program code frames term [] t) }
+        requires { 2 ≤ frames }
+        ensures { IfOk result (λ t. (program : Program) (code : Code) → IsTyped program term → body ≡ term_code program term → code ≡ program_code program → Follows program code frames term [] t) }
     {
+        typed_terms_go_on();
         let top = CallFrame {
+            invocation: Invocation::of_term(),
             activation: Activation::of_term(alloc, &term)?,
             place: 0,
             operands: Operands::new(alloc, body.depth)?,
@@ -98,17 +103,18 @@ impl Thread {
     /// `NoMemory`, with the thread as before.
     pub fn advance(
         &mut self,
-        _alloc: Global,
+        alloc: Global,
         _program: &Program,
-        _code: &Code,
+        code: &Code,
     ) -> Result<(), NoMemory>
         requires moves { self.old.run.want ≡ Want.Move }
-        requires on { IsOn _program.now _code.now self.old }
-        ensures follows { OnOk result ((limit : ℕ) (term : Term) (answers : List Answer) → Follows _program.now _code.now limit term answers self.old → Follows _program.now _code.now limit term answers self.new) }
-        ensures nearer { OnOk result (moves_left _code.now self.new < moves_left _code.now self.old) }
+        requires on { IsOn _program.now code.now self.old }
+        ensures follows { OnOk result ((limit : ℕ) (term : Term) (answers : List Answer) → Follows _program.now code.now limit term answers self.old → Follows _program.now code.now limit term answers self.new) }
+        ensures nearer { OnOk result (moves_left code.now self.new < moves_left code.now self.old) }
         ensures err { OnErr result (self.new ≡ self.old) }
     {
-        advance_run(&mut self.run, &self.body)
+        typed_terms_go_on();
+        advance_run(alloc, &mut self.run, code, &self.body)
     }
 
     /// Takes the answer to the action that the thread wants, and hands the action back. Takes no memory: its room was
@@ -119,6 +125,7 @@ impl Thread {
         ensures follows { (program : Program) (code : Code) (limit : ℕ) (term : Term) (answers : List Answer) → Follows program code limit term answers self.old → Allows program result answer
             → Follows program code limit term (answers ++ answer ∷ []) self.new }
     {
+        typed_terms_go_on();
         answer_run(&mut self.run, answer)
     }
 }

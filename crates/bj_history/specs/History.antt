@@ -6,6 +6,7 @@ use Rattle.bj_core.specs.declared.entry.Entry.TheVariants.{Act, Line, Pause, Tic
 use Rattle.bj_core.specs.declared.entry.Reason.{Reason}
 use Rattle.bj_core.specs.declared.entry.Reason.TheVariants.{Idle, Halted, Stuck, Spent, Still, Jobs}
 use Rattle.bj_core.specs.declared.program.Program.{Program}
+use Rattle.bj_builtin.specs.Builtin.{builtin}
 use Rattle.bj_history.specs.declared.opening.Opening.{Opening}
 use Rattle.bj_history.specs.declared.opening.Wait.{Wait}
 use Rattle.bj_history.specs.declared.opening.Wait.TheVariants.{Silent}
@@ -19,15 +20,15 @@ pub record After : Type 0 where
   pub world : World
   pub wait : Option Wait
 
--- the program that is loaded at the opening: no class is built
-abbrev pub loaded : Program
-loaded = record { classes = [] }
+-- the program that is loaded at the opening, until folders are read
+unfoldable pub loaded : Program
+loaded = builtin
 
 abbrev pub setting : Opening → Setting
 setting o = record { program = loaded; limits = o.limits }
 
-abbrev pub opening_state : After
-opening_state = record { world = opened; wait = None }
+abbrev pub opening_state : Opening → After
+opening_state o = record { world = opened (setting o); wait = None }
 
 -- a line that wanted memory leaves all as it was
 abbrev pub after_line : List ℕ → List ℕ → After → After
@@ -49,7 +50,7 @@ next o s (Woke reason) = with_wait None s
 next o s Reset = s
 
 abbrev pub after : Opening → List Entry → After
-after o [] = opening_state
+after o [] = opening_state o
 after o (e ∷ front) = next o (after o front) e
 
 -- the lines of a history, in order

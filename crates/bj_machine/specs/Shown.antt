@@ -1,5 +1,5 @@
 -- The machine as its callers see it, and for which abstract machine it stands.
-use Rattle.std.specs.Prelude.{ℕ, ◌≡◌, ◌+◌, ◌<◌, ◌≤◌, List, [], ◌∷◌, Option, Some, None, Bool, true, false, if◌then◌else◌, IsSome, is_some}
+use Rattle.std.specs.Prelude.{ℕ, ◌≡◌, ◌+◌, ◌≤◌, List, [], ◌∷◌, Option, Some, None, Bool, true, false, if◌then◌else◌, is_some, All, ◌≢◌}
 use Rattle.bj_core.specs.declared.action.Action.{Action}
 use Rattle.bj_core.specs.declared.action.Action.TheVariants.{End}
 use Rattle.bj_core.specs.declared.action.Answer.{Answer}
@@ -7,23 +7,31 @@ use Rattle.bj_core.specs.declared.action.Done.{Done}
 use Rattle.bj_core.specs.declared.entry.Entry.{Entry}
 use Rattle.bj_core.specs.declared.entry.Entry.TheVariants.{Act}
 use Rattle.bj_core.specs.declared.frame.Term.{Term}
+use Rattle.bj_core.specs.declared.program.Class.{Class}
+use Rattle.bj_core.specs.declared.program.Field.{Field}
 use Rattle.bj_core.specs.declared.program.Program.{Program}
+use Rattle.bj_core.specs.declared.types.Ty.TheVariants.{Void}
 use Rattle.bj_core.specs.declared.limits.Limits.{Limits}
 use Rattle.bj_code.specs.declared.code.Code.{Code}
+use Rattle.bj_code.specs.ProgramCode.{program_code}
 use Rattle.bj_exec.specs.declared.thread.Thread.{Thread}
 use Rattle.bj_exec.specs.declared.run.Want.{Want}
 use Rattle.bj_exec.specs.declared.run.Want.TheVariants as want
 use Rattle.bj_exec.specs.Follows.{Follows}
 use Rattle.bj_machine.specs.declared.machine.Step.{Step}
 use Rattle.bj_machine.specs.declared.machine.Step.TheVariants.{Acted, Moved, Idle, Spent, NoMemory}
-use Rattle.bj_machine.specs.World.{Setting, Told, World, opened, next_action, is_enabled, acted, begun, react, MayAct}
+use Rattle.bj_machine.specs.World.{Setting, Told, World, opened, next_action, is_enabled, acted, begun, answer_of, MayAct}
+use Rattle.bj_store.specs.State.{State, row_at, lives}
+use Rattle.bj_store.specs.React.{react}
+use Rattle.bj_store.specs.Kept.{IsKept}
 
--- the program, the code and the limits; the log, the newest entry first; the main thread, while it has a term; and how many
--- actions were done
+-- the program, the code and the limits; the store's state; the log, the newest entry first; the main thread, while it has a
+-- term; and how many actions were done
 pub record Shown : Type 0 where
   pub program : Program
   pub code : Code
   pub limits : Limits
+  pub store : State
   pub log : List Entry
   pub main : Option Thread
   pub acts : ℕ
@@ -38,22 +46,40 @@ At v None (Some t) = ⊥
 At v (Some d) None = ⊥
 At v (Some d) (Some t) = Follows v.program v.code v.limits.frames d.term d.answers t
 
--- the main thread follows its term with the answers that it had
+-- the store is in its state, and the main thread follows its term with the answers that it had
 pub record Stands (v : Shown) (w : World) : Type 0 where
+  pub store : v.store ≡ w.store
   pub main : At v w.main v.main
   pub acts : v.acts ≡ w.acts
+
+abbrev pub is_field : Field → Type 0
+is_field f = f.ty ≢ Void
+
+-- no field of a class of the program is of type void
+abbrev pub HasFields : Program → Type 0
+HasFields program = All (λ (c : Class). All is_field c.fields) program.classes
+
+-- the store is kept, and knows the main thread, which lives in it where it has a term
+pub record IsLiving (program : Program) (s : State) (busy : Bool) : Type 0 where
+  pub kept : IsKept program s
+  pub known : is_some (row_at s.threads 1) ≡ true
+  pub living : lives s 1 ≡ busy
 
 -- what holds always
 pub record IsSound (v : Shown) : Type 0 where
   pub world : World
   pub stands : Stands v world
   pub spent : v.acts ≤ v.limits.acts
+  pub store : IsLiving v.program v.store (is_some v.main)
+  pub fields : HasFields v.program
+  pub enough : 2 ≤ v.limits.frames
+  pub is_code : v.code ≡ program_code v.program
 
 -- nothing has happened
 pub record IsFresh (program : Program) (limits : Limits) (v : Shown) : Type 0 where
   pub made : setting_of v ≡ record { program = program; limits = limits }
   pub log : v.log ≡ []
-  pub stands : Stands v opened
+  pub stands : Stands v (opened (setting_of v))
 
 -- the thread is about to begin with the term
 abbrev pub IsReady : Shown → Term → Thread → Type 0
@@ -135,15 +161,15 @@ abbrev pub enabled_list : Bool → List ℕ
 enabled_list enabled = if enabled then 1 ∷ [] else []
 
 -- the main thread wants an instruction, or an action that is not blocked
-abbrev pub can_move : Want → Bool
-can_move want.Move = true
-can_move (want.Do a) = is_some (react a)
-can_move (want.Over d) = true
+abbrev pub can_move : Shown → Want → Bool
+can_move v want.Move = true
+can_move v (want.Do a) = is_some (answer_of (react v.program v.store 1 a))
+can_move v (want.Over d) = true
 
-abbrev pub can_step : Option Thread → Bool
-can_step None = false
-can_step (Some t) = can_move t.run.want
+abbrev pub can_step : Shown → Option Thread → Bool
+can_step v None = false
+can_step v (Some t) = can_move v t.run.want
 
 -- an entry more
 abbrev pub with_entry : Entry → Shown → Shown
-with_entry e v = record { program = v.program; code = v.code; limits = v.limits; log = e ∷ v.log; main = v.main; acts = v.acts }
+with_entry e v = record { program = v.program; code = v.code; limits = v.limits; store = v.store; log = e ∷ v.log; main = v.main; acts = v.acts }

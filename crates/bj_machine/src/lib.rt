@@ -1,6 +1,8 @@
-//! The machine: the main thread, and the log of all that happened.
+//! The machine: the main thread over its store, and the log of all that happened.
 #![tactic(auto)]
 
+mod acting;
+mod laws;
 mod log;
 mod machine;
 

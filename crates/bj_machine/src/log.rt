@@ -1,4 +1,5 @@
-ghost use Rattle.std.specs.Prelude.{◌≡◌, ◌≤◌, ◌-◌, [], ◌∷◌, length, OnOk, OnErr, Some, slice_get, reverse, IsTrue, ◌↔◌};
+ghost use Rattle.std.specs.Prelude.{◌≡◌, ◌≤◌, ◌<◌, ◌-◌, List, [], ◌∷◌, length, OnOk, OnErr, Some, slice_get, reverse, IsTrue, ◌↔◌};
+ghost use Rattle.bj_core.specs.declared.entry.Entry.{Entry as EntryOf};
 
 use bj_core::{Entry, NoMemory};
 use std::alloc::Global;
@@ -18,6 +19,9 @@ impl Model for Log {
 
     ghost view = { λ log. reverse log.entries.items };
 }
+
+/// Lets an entry go. Its drop stands here alone, so that no caller's proof goes through it.
+fn let_go(_entry: Option<Entry>) {}
 
 impl Log {
     /// An empty log, which takes no memory.
@@ -64,5 +68,21 @@ impl Log {
             Ok(()) => Ok(()),
             Err(_) => Err(NoMemory),
         }
+    }
+
+    /// Puts an entry in the place of the last one. Takes no memory.
+    pub fn amend(&mut self, entry: Entry)
+        requires { 0 < length self.old }
+        ensures { (last : EntryOf) (front : List EntryOf) → self.old ≡ last ∷ front → self.new ≡ entry ∷ front }
+    {
+        let last = self.entries.len() - 1;
+        let_go(Some(std::mem::replace(&mut self.entries[last], entry)));
+    }
+
+    /// Takes the last entry off, if there is one.
+    pub fn take_back(&mut self)
+        ensures { (last : EntryOf) (front : List EntryOf) → self.old ≡ last ∷ front → self.new ≡ front }
+    {
+        let_go(self.entries.pop());
     }
 }

@@ -2,18 +2,21 @@ ghost use Rattle.std.specs.Prelude.{◌≡◌, ◌∷◌, [], ◌≤◌, ◌<◌
 ghost use Rattle.bj_core.specs.declared.action.Action.TheVariants.{End};
 ghost use Rattle.bj_core.specs.declared.action.Answer.{Answer as AnswerOf};
 ghost use Rattle.bj_core.specs.declared.action.Done.{Done as DoneOf};
-ghost use Rattle.bj_core.specs.declared.entry.Entry.TheVariants as entry;
 ghost use Rattle.bj_core.specs.declared.frame.Term.{Term};
 ghost use Rattle.bj_eval.specs.Typed.{IsTyped};
+ghost use Rattle.bj_code.specs.ProgramCode.{program_code};
 ghost use Rattle.bj_exec.specs.Follows.{Follows, IsOn};
-ghost use Rattle.bj_machine.specs.World.{World, is_enabled, next_action, react};
-ghost use Rattle.bj_machine.specs.Shown.{Stands, IsFresh, IsReady, IsSettled, HasMoved, HasBegun, Steps, Finishes, setting_of, end_in, end_of, enabled_list, rests, rests_main, can_step, with_entry};
+ghost use Rattle.bj_machine.specs.World.{World, is_enabled, next_action};
+ghost use Rattle.bj_machine.specs.Shown.{Stands, IsFresh, IsReady, IsSettled, HasMoved, HasBegun, HasFields, Steps, Finishes, setting_of, end_in, end_of, enabled_list, rests, rests_main, can_step, with_entry};
 
 use crate::Log;
+use crate::acting::{MAIN, act_on, end_on, let_go};
+use crate::laws::{answers_are_allowed, stores_know_what_lives};
 use bj_code::Code;
-use bj_core::{Action, Answer, Done, Entry, Limits, NoMemory, Program, Term};
+use bj_core::{Action, Done, Entry, Limits, NoMemory, Program, Term};
 use bj_exec::{Thread, Want};
 use bj_gen::generate_term;
+use bj_store::{Store, ends_are_answered, new_stores_are_kept};
 use std::alloc::Global;
 use std::marker::Model;
 
@@ -47,6 +50,7 @@ pub struct Machine {
     program: Program,
     code: Code,
     limits: Limits,
+    store: Store,
     log: Log,
     main: Option<Thread>,
     acts: u64,
@@ -65,9 +69,9 @@ impl Model for Machine {
 
     ghost use Rattle.bj_machine.specs.Shown.{IsSound};
 
-    ghost view = { λ m. record { program = m.program; code = m.code; limits = m.limits; log = m.log; main = m.main; acts = m.acts } };
+    ghost view = { λ m. record { program = m.program; code = m.code; limits = m.limits; store = m.store; log = m.log; main = m.main; acts = m.acts } };
 
-    ghost invariant = { λ m. IsSound (record { program = m.program; code = m.code; limits = m.limits; log = m.log; main = m.main; acts = m.acts }) };
+    ghost invariant = { λ m. IsSound (record { program = m.program; code = m.code; limits = m.limits; store = m.store; log = m.log; main = m.main; acts = m.acts }) };
 }
 
 /// How a term is over by an action, where that is its end.
@@ -80,24 +84,11 @@ fn end_in(action: &Action) -> Option<Done>
     }
 }
 
-/// The number of the main thread.
-const MAIN: u32 = 1;
-
-/// The entry of an action of the main thread.
-fn act_entry(answer: Answer) -> Entry
-    ensures { result ≡ entry.Act 1 answer }
-{
-    Entry::Act {
-        thread: MAIN,
-        answer,
-    }
-}
-
 /// Lets a thread go. Its drop stands here alone, so that no caller's proof goes through it.
 fn dismiss(_thread: Option<Thread>) {}
 
-/// Lets an action go, as `dismiss` does a thread.
-fn let_go(_action: Action) {}
+/// Lets a program and its code go, as `dismiss` does a thread.
+fn forsake(_program: Program, _code: Code) {}
 
 /// The thread does its instructions that ask for nothing, up to its next action.
 fn settle_thread(
@@ -123,19 +114,9 @@ fn settle_thread(
     }
 }
 
-/// What the store answers to an action, or None where it is blocked. Further actions are not built.
-fn react(action: &Action) -> Option<Answer>
-    ensures { result ≡ react action.now }
-{
-    match action {
-        Action::Point(_) => Some(Answer::Done),
-        Action::End { done: _ } => Some(Answer::Done),
-        _ => None,
-    }
-}
-
 impl Machine {
-    /// A machine whose main thread has no term.
+    /// A machine whose main thread has no term. The code is that of the program, and a thread may have at least two frames.
+    /// No field is of type `void`, so that each has a default value.
     ///
     /// # Errors
     ///
@@ -146,17 +127,28 @@ impl Machine {
         code: Code,
         limits: Limits,
     ) -> Result<Machine, NoMemory>
+        requires frames { 2 ≤ limits.frames }
+        requires code { code ≡ program_code program }
+        requires fields { HasFields program }
         ensures { IfOk result (λ m. IsFresh program limits m) }
     {
-        Ok(Machine {
-            program,
-            code,
-            limits,
-            log: Log::new(alloc),
-            main: None,
-            acts: 0,
-            alloc,
-        })
+        new_stores_are_kept();
+        match Store::new(alloc, &program, limits) {
+            Ok(store) => Ok(Machine {
+                program,
+                code,
+                limits,
+                store,
+                log: Log::new(alloc),
+                main: None,
+                acts: 0,
+                alloc,
+            }),
+            Err(_) => {
+                forsake(program, code);
+                Err(NoMemory)
+            }
+        }
     }
 
     /// The log.
@@ -174,6 +166,7 @@ impl Machine {
             program: _,
             code: _,
             limits: _,
+            store: _,
             log,
             main: _,
             acts: _,
@@ -199,14 +192,15 @@ impl Machine {
 
     /// Whether the main thread wants an instruction, or an action that is not blocked.
     fn can_step(&self) -> bool
-        ensures can { result ≡ can_step self.now.main }
+        ensures can { result ≡ can_step self.now self.now.main }
         ensures settled { IsSettled self.now → (w : World) → Stands self.now w → result ≡ is_enabled (setting_of self.now) w }
     {
+        ends_are_answered();
         match &self.main {
             None => false,
             Some(thread) => match thread.want() {
                 Want::Move => true,
-                Want::Do(action) => react(action).is_some(),
+                Want::Do(action) => self.store.blocked(MAIN, action).is_none(),
                 Want::Over(_) => true,
             },
         }
@@ -254,6 +248,8 @@ impl Machine {
         requires { (term : Term) × IsReady self.old term thread }
         ensures { (term : Term) → IsReady self.old term thread → HasBegun self.old self.new term }
     {
+        stores_know_what_lives();
+        self.store.begin();
         dismiss(std::mem::replace(&mut self.main, Some(thread)));
     }
 
@@ -310,12 +306,12 @@ impl Machine {
 
     /// One instruction of the main thread, which is enabled.
     fn instruct(&mut self) -> Step
-        requires enabled { can_step self.old.main ≡ true }
+        requires enabled { can_step self.old self.old.main ≡ true }
         requires left { self.old.acts < self.old.limits.acts }
         ensures { Steps result self.old self.new }
     {
         match self.end() {
-            Some(_) => self.finish(),
+            Some(done) => self.finish(done),
             None => self.go_on(),
         }
     }
@@ -323,10 +319,12 @@ impl Machine {
     /// One instruction of the main thread, or its next action, which is no end.
     fn go_on(&mut self) -> Step
         requires goes { end_of self.old.main ≡ None }
-        requires enabled { can_step self.old.main ≡ true }
+        requires enabled { can_step self.old self.old.main ≡ true }
         requires left { self.old.acts < self.old.limits.acts }
         ensures { Steps result self.old self.new }
     {
+        answers_are_allowed();
+        stores_know_what_lives();
         let Some(thread) = &mut self.main else {
             unreachable!()
         };
@@ -336,13 +334,10 @@ impl Machine {
                 Err(_) => Step::NoMemory,
             },
             Want::Do(action) => {
-                let Some(answer) = react(action) else {
-                    unreachable!()
-                };
-                match self.log.push(act_entry(answer)) {
-                    Ok(()) => {}
+                let answer = match act_on(&mut self.store, &mut self.log, &self.program, action) {
+                    Ok(answer) => answer,
                     Err(_) => return Step::NoMemory,
-                }
+                };
                 let_go(thread.answer(answer));
                 self.acts += 1;
                 Step::Acted {
@@ -355,13 +350,16 @@ impl Machine {
     }
 
     /// The end of the main thread's term.
-    fn finish(&mut self) -> Step
+    fn finish(&mut self, done: Done) -> Step
         requires ends { Finishes self.old }
+        requires done { end_of self.old.main ≡ Some done }
         requires left { self.old.acts < self.old.limits.acts }
         ensures { Steps result self.old self.new }
     {
-        match self.log.push(act_entry(Answer::Done)) {
-            Ok(()) => {}
+        ends_are_answered();
+        stores_know_what_lives();
+        match end_on(&mut self.store, &mut self.log, &self.program, done) {
+            Ok(_) => {}
             Err(_) => return Step::NoMemory,
         }
         dismiss(std::mem::replace(&mut self.main, None));

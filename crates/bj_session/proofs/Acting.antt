@@ -18,7 +18,7 @@ use Rattle.bj_history.specs.Replies.{IsReply, reply, started, no_memory}
 use Rattle.bj_history.specs.Events.{act_event, done_event, written_line}
 use Rattle.bj_history.specs.History.{After, after, after_line, setting, May, Legal, printed, written}
 use Rattle.bj_command.specs.Words.{takes_memory}
-use Rattle.bj_machine.specs.World.{World, Setting, reaction, is_enabled, next_action, begun, MayAct}
+use Rattle.bj_machine.specs.World.{World, Setting, reaction, answer_of, is_enabled, next_action, begun, MayAct}
 use Rattle.bj_machine.specs.Shown.{Shown, Stands, HasActed as MachineActed, HasMoved, HasBegun, IsReady, setting_of, end_in, end_of, with_entry}
 use Rattle.bj_session.specs.Sending.{IsSent}
 use Rattle.bj_session.specs.Asking.{text_of, IsFor, MayBegin, Begins, OnlyReplies, StartsTerm}
@@ -29,14 +29,14 @@ use Rattle.bj_session.specs.declared.sending.Sent.{Sent}
 use Rattle.bj_session.specs.declared.sending.Sent.TheVariants.{All, Failed, NoMemory as NoRoom}
 use Rattle.bj_session.proofs.Notes.{unnoted, noted}
 
-reply_by : (o : Setting) (w : World) (r : Option Answer) → reaction o w ≡ r → is_some r ≡ true → (x : Answer) × (reaction o w ≡ Some x)
+reply_by : (o : Setting) (w : World) (r : Option Answer) → answer_of (reaction o w) ≡ r → is_some r ≡ true → (x : Answer) × (answer_of (reaction o w) ≡ Some x)
 reply_by o w None e some = absurd cc
 reply_by o w (Some x) e some = (x, e)
 
 -- an enabled thread may be answered
 pub may_act : (o : Opening) (log : List Entry) → is_enabled (setting o) (after o log).world ≡ true → (after o log).world.acts < o.limits.acts → (x : Answer) × May o log (Act 1 x)
 may_act o log enabled left =
-    let r = reply_by (setting o) (after o log).world (reaction (setting o) (after o log).world) refl enabled in
+    let r = reply_by (setting o) (after o log).world (answer_of (reaction (setting o) (after o log).world)) refl enabled in
     (r.0, record { main = refl; answer = r.1; left = left })
 
 -- memory was wanting before the action
@@ -105,7 +105,7 @@ kept_more o m m' wait line text w kept may replied log same changes stands = rec
 }
 
 entry_stands : (e : Entry) (m : Shown) (w : World) → Stands m w → Stands (with_entry e m) w
-entry_stands e m w st = record { main = st.main; acts = st.acts }
+entry_stands e m w st = record { store = st.store; main = st.main; acts = st.acts }
 
 -- the machine after a line that starts nothing
 kept_only : (o : Opening) (m : Shown) (wait : Option Wait) (line text : List ℕ) → IsKept o m wait → MayTake o m.log → IsReply (after o m.log).world line text

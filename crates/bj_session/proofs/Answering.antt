@@ -19,7 +19,7 @@ use Rattle.bj_history.specs.History.{After, after, after_line, setting, lines, h
 use Rattle.bj_history.proofs.Acts.{acts_line}
 use Rattle.bj_session.specs.Reading.{Reader, TakesLine, is_too_long}
 use Rattle.bj_session.specs.Desk.{Desk, HasNoted, HasLined, MayTake, world_of}
-use Rattle.bj_session.specs.Session.{Session, Goes, IsSound, IsOver, IsLive, IsReading, IsRested, todo, ending_after, ending_lined, ends_at}
+use Rattle.bj_session.specs.Session.{Session, Goes, IsSound, IsOver, IsLive, IsReading, IsRested, todo, turns_of_wait, ending_after, ending_lined, ends_at}
 use Rattle.bj_session.specs.declared.ends.Ending.{Ending}
 use Rattle.bj_session.specs.declared.ends.Ending.TheVariants as ending
 use Rattle.bj_session.specs.declared.sending.Sent.{Sent}
@@ -200,6 +200,11 @@ falls_paused All sent quit line r r' d d' d'' s k none =
     let shorter = k.lined.takes.shorter in
     let got : length r'.got ≡ length r.got = ap length same.got in
     let acts = acts_line line k.lined.lined.text (after d.opening d.log) in
-    rw (log, log', opens, same.ended) (omega arith)
+    let whole : d''.log ≡ Pause ∷ (Line line k.lined.lined.text ∷ d.log) = log ∙ ap (λ l. Pause ∷ l) log' in
+    let counted : (world_of d'').acts ≡ (world_of d).acts =
+    ap (λ (l : List Entry). (after d''.opening l).world.acts) whole ∙ ap (λ (o : Opening). (after o (Pause ∷ (Line line k.lined.lined.text ∷ d.log))).world.acts) opens ∙ acts in
+    let waits : turns_of_wait (after d''.opening d''.log).wait ≡ 1 = ap (λ (l : List Entry). turns_of_wait (after d''.opening l).wait) whole in
+    let limit : d''.opening.limits.acts ≡ d.opening.limits.acts = ap (λ (o : Opening). o.limits.acts) opens in
+    rw same.ended (omega arith)
 falls_paused Failed sent quit line r r' d d' d'' s k none = absurd cc
 falls_paused NoMemory sent quit line r r' d d' d'' s k none = absurd cc

@@ -1,5 +1,5 @@
 -- What an entry keeps of the session.
-use Rattle.std.proofs.Common.{◌≡◌, ◌<◌, ℕ, length, List, [], ◌∷◌, ◌++◌, Bool, true, false, if◌then◌else◌, is_some, Option, Some, None, inl, inr, ap, sym, ◌∙◌, refl, subst, arith}
+use Rattle.std.proofs.Common.{◌≡◌, ◌<◌, ◌+◌, ℕ, length, List, [], ◌∷◌, ◌++◌, Bool, true, false, if◌then◌else◌, is_some, Option, Some, None, inl, inr, ap, sym, ◌∙◌, refl, subst, arith}
 use Rattle.std.specs.Prelude.{IsSome}
 use Rattle.bj_core.specs.declared.action.Answer.{Answer}
 use Rattle.bj_core.specs.declared.entry.Entry.{Entry}
@@ -98,8 +98,13 @@ pub falls_act : (answer : Sent) (r : Reader) (d d' : Desk) (s : Option Ending) �
     → todo (record { reader = r; desk = d'; ending = ending_after answer }) < todo (record { reader = r; desk = d; ending = s })
 falls_act All r d d' s k none =
     let log : d'.log ≡ Act 1 k.acted.reply ∷ d.log = (k.acted.noted.all refl).0 in
-    let left : (after d.opening d.log).world.acts < d.opening.limits.acts = k.left in
-    rw (log, k.acted.noted.opening) (omega arith)
+    let left : (world_of d).acts < d.opening.limits.acts = k.left in
+    let limit : d'.opening.limits.acts ≡ d.opening.limits.acts = ap (λ (o : Opening). o.limits.acts) k.acted.noted.opening in
+    let acts : (world_of d').acts ≡ (world_of d).acts + 1 =
+    ap (λ (l : List Entry). (after d'.opening l).world.acts) log ∙ ap (λ (o : Opening). (after o (Act 1 k.acted.reply ∷ d.log)).world.acts) k.acted.noted.opening in
+    let waits : turns_of_wait (after d'.opening d'.log).wait ≡ turns_of_wait (after d.opening d.log).wait =
+    ap (λ (l : List Entry). turns_of_wait (after d'.opening l).wait) log ∙ ap (λ (o : Opening). turns_of_wait (after o (Act 1 k.acted.reply ∷ d.log)).wait) k.acted.noted.opening in
+    omega arith
 falls_act Failed r d d' s k none = absurd cc
 falls_act NoMemory r d d' s k none = absurd cc
 
@@ -132,7 +137,9 @@ sound_woken reason r d d' s s' over k complete none_ long only_complete =
         reading = reading;
         goes_on = rw log live.goes_on;
         paused = rw log refl;
-        rested = λ is. rw (log, k.noted.opening) (rested_by d.opening (world_of d) reason k.wakes);
+        rested = λ is.
+            subst (λ (l : List Entry). IsRested d'.opening (after d'.opening l).world) (sym log)
+            (subst (λ (o : Opening). IsRested o (after o (Woke reason ∷ d.log)).world) (sym k.noted.opening) (rested_by d.opening (world_of d) reason k.wakes));
         quiet = λ is. rw log refl;
         more = λ ended quiet. k.more_is (none_ none) ended;
       };
@@ -173,6 +180,10 @@ pub falls_wake : (answer : Sent) (reason : Reason) (r : Reader) (d d' : Desk) (s
 falls_wake All reason r d d' s over k none =
     let log : d'.log ≡ Woke reason ∷ d.log = (k.noted.all refl).0 in
     let one = one_wait (after d.opening d.log).wait k.opened in
-    rw (log, k.noted.opening) (omega arith)
+    let limit : d'.opening.limits.acts ≡ d.opening.limits.acts = ap (λ (o : Opening). o.limits.acts) k.noted.opening in
+    let acts : (world_of d').acts ≡ (world_of d).acts =
+    ap (λ (l : List Entry). (after d'.opening l).world.acts) log ∙ ap (λ (o : Opening). (after o (Woke reason ∷ d.log)).world.acts) k.noted.opening in
+    let waits : turns_of_wait (after d'.opening d'.log).wait ≡ 0 = ap (λ (l : List Entry). turns_of_wait (after d'.opening l).wait) log in
+    omega arith
 falls_wake Failed reason r d d' s over k none = absurd cc
 falls_wake NoMemory reason r d d' s over k none = absurd cc

@@ -1,6 +1,7 @@
 ghost use Rattle.std.specs.Prelude.{◌≡◌, ◌≤◌, IfOk, length, true};
 ghost use Rattle.bj_command.specs.Words.{takes_memory};
 ghost use Rattle.bj_history.specs.Replies.{pad_term, reply, reply_term, started, started_term};
+ghost use Rattle.bj_eval.specs.Typed.{IsProgram};
 ghost use Rattle.bj_machine.specs.World.{World};
 ghost use Rattle.bj_machine.specs.Shown.{Stands};
 ghost use Rattle.bj_sum.specs.Reading.{sum_of};
@@ -48,7 +49,8 @@ fn pad_term(alloc: Global, expr: Expr) -> Term
 
 /// What a codepad line with this text asks.
 fn ask_pad(alloc: Global, machine: &Machine, text: &[u8]) -> Ready
-    requires { length text.now ≤ 65536 }
+    requires fits { length text.now ≤ 65536 }
+    requires program { IsProgram machine.now.program }
     ensures { (w : World) → Stands machine.now w → IsFor machine.now w (reply_term (sum_of text.now) w) (started_term (sum_of text.now) w) true result }
 {
     let expr = match read_sum(alloc, text) {
@@ -68,6 +70,7 @@ fn ask_pad(alloc: Global, machine: &Machine, text: &[u8]) -> Ready
 
 /// What a line asks.
 pub fn ask(alloc: Global, machine: &Machine, line: &[u8]) -> Ready
+    requires { IsProgram machine.now.program }
     ensures { (w : World) → Stands machine.now w → IsFor machine.now w (reply line.now w) (started line.now w) (takes_memory line.now) result }
 {
     match read_line(alloc, line) {

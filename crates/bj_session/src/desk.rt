@@ -1,14 +1,16 @@
-ghost use Rattle.std.specs.Prelude.{◌≡◌, ◌<◌, IfOk, IfErr, true, is_some};
+ghost use Rattle.std.specs.Prelude.{◌≡◌, ◌≤◌, ◌<◌, IfOk, IfErr, true, is_some};
 ghost use Rattle.bj_core.specs.declared.entry.Entry.TheVariants as entry;
 ghost use Rattle.bj_history.specs.Events.{written_line};
-ghost use Rattle.bj_history.specs.History.{after, setting, Legal, May};
+ghost use Rattle.bj_history.specs.History.{after, loaded, setting, Legal, May};
+ghost use Rattle.bj_machine.specs.Shown.{IsFresh};
 ghost use Rattle.bj_machine.specs.World.{is_enabled};
 ghost use Rattle.bj_session.specs.Desk.{fresh_desk, world_of, HasNoted, HasLined, HasActed, MayTake, IsDecided, end_event};
 
 use crate::asking::{ask, begin, let_go, reply_text};
 use crate::{Sent, put_all};
-use bj_code::Code;
-use bj_core::{Bytes, Done, Entry, NoMemory, Program, Reason, Seq, Val};
+use bj_builtin::{builtin, builtin_is_a_program};
+use bj_core::{Bytes, Done, Entry, Limits, NoMemory, Reason, Seq, Val};
+use bj_gen::generate;
 use bj_history::{Opening, Wait};
 use bj_io::Sink;
 use bj_machine::{Log, Machine, Step};
@@ -72,6 +74,20 @@ fn event_text(alloc: Global, end: Option<Done>) -> Result<Bytes, NoMemory>
     }
 }
 
+/// A machine over the program that is loaded at the opening.
+///
+/// # Errors
+///
+/// `NoMemory` where there is no room for the program, its code or its store.
+fn load(alloc: Global, limits: Limits) -> Result<Machine, NoMemory>
+    requires { 2 ≤ limits.frames }
+    ensures { IfOk result (λ m. IsFresh loaded limits m) }
+{
+    let program = builtin(alloc)?;
+    let code = generate(alloc, &program)?;
+    Machine::new(alloc, program, code, limits)
+}
+
 impl<K: Sink> Desk<K> {
     /// A desk on which nothing has happened.
     ///
@@ -79,16 +95,11 @@ impl<K: Sink> Desk<K> {
     ///
     /// The sink, where there is no room for the machine.
     pub fn new(alloc: Global, opening: Opening, sink: K) -> Result<Desk<K>, K>
+        requires { 2 ≤ opening.limits.frames }
         ensures ok { IfOk result (λ d. d ≡ fresh_desk opening (K.held sink) (K.faults sink)) }
         ensures err { IfErr result (λ k. k ≡ sink) }
     {
-        let program = Program {
-            classes: Seq::new(alloc),
-        };
-        let code = Code {
-            methods: Seq::new(alloc),
-        };
-        match Machine::new(alloc, program, code, opening.limits) {
+        match load(alloc, opening.limits) {
             Ok(machine) => Ok(Desk {
                 opening,
                 machine,
@@ -132,6 +143,7 @@ impl<K: Sink> Desk<K> {
         requires { MayTake self.old.opening self.old.log }
         ensures { HasLined result bytes self.old self.new }
     {
+        builtin_is_a_program();
         let ready = ask(self.alloc, &self.machine, bytes.as_slice());
         let reply = match reply_text(self.alloc, &ready) {
             Ok(reply) => reply,

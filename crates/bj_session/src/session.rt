@@ -106,7 +106,8 @@ impl<S: Source, K: Sink, C: Clock> Session<S, K, C> {
         opening: Opening,
         ends: Ends<S, K, C>,
     ) -> Result<Session<S, K, C>, Finish<S, K, C>>
-        requires { S.ended ends.source ≡ false }
+        requires open { S.ended ends.source ≡ false }
+        requires frames { 2 ≤ opening.limits.frames }
         ensures ok { IfOk result (λ s. s ≡ fresh_session opening (S.left ends.source) (S.faults ends.source) (S.waits ends.source) (S.polls ends.source) (K.held ends.sink) (K.faults ends.sink)) }
         ensures err { IfErr result (λ f. (f.status ≡ 5) × (f.log ≡ []) × (f.ends ≡ ends)) }
     {

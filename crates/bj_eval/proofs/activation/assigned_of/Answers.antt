@@ -1,4 +1,4 @@
-use Rattle.std.proofs.Common.{◌≡◌, ◌∙◌, ◌++◌, ◌∷◌, [], ap}
+use Rattle.std.proofs.Common.{◌∙◌, ◌++◌, ◌∷◌, [], ap}
 use Rattle.bj_eval.proofs.activation.assigned_of.Goals as goal
 use Rattle.bj_eval.proofs.activation.assigned_of.Goals.{in-Some+in_ok-copy-in-Some+in_ok-push-in-Some, in-None}
 use Rattle.bj_eval.proofs.Shown.{shown, hidden}

@@ -7,7 +7,7 @@ use Rattle.bj_session.proofs.asking.ask_pad.Goals as goal
 pub prepare-requires : goal.prepare-requires
 prepare-requires c =
     let read : sum_of c.args.text.now ≡ Some c.in-Ok-Some.expr = sym c.in-Ok-Some.ensures ∙ c.in-Ok-Some.field-0-is in
-    rw c.pad_term.ensures (pad_typed c.args.machine.now.program c.in-Ok-Some.expr (c.sums_are_of_sums.ensures c.args.text.now c.in-Ok-Some.expr read))
+    rw c.pad_term.ensures (pad_typed c.args.machine.now.program c.in-Ok-Some.expr c.requires.program (c.sums_are_of_sums.ensures c.args.text.now c.in-Ok-Some.expr read))
 
 pub returns-in-Ok : goal.returns-in-Ok
 returns-in-Ok c = λ w stands.

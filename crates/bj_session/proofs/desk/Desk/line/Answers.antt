@@ -5,10 +5,11 @@ use Rattle.bj_history.specs.Events.{written_line}
 use Rattle.bj_history.specs.History.{after}
 use Rattle.bj_history.specs.Replies.{reply, started}
 use Rattle.bj_machine.specs.World.{World}
-use Rattle.bj_machine.specs.Shown.{Shown, with_entry}
+use Rattle.bj_machine.specs.Shown.{Shown, setting_of, with_entry}
 use Rattle.bj_session.specs.Asking.{IsFor, text_of, Begins}
 use Rattle.bj_session.proofs.Notes.{unnoted, noted}
 use Rattle.bj_session.proofs.Acting.{is_reply, may_begin, kept_lined, begun_log}
+use Rattle.bj_session.proofs.Sums.{has_loaded}
 use Rattle.bj_session.proofs.desk.Desk.line.Goals as goal
 
 pub returns-in-Err : goal.returns-in-Err
@@ -56,3 +57,6 @@ returns g c =
       noted = noted c.put_all.result (Line c.args.bytes (text_of c.ask-ready.result)) _ _ c.as_slice-2.result.now c.put_all.ensures.sent (c.as_slice-2.ensures ∙ (c.in-Ok-written_text.ensures ∙ ap written_line c.in-Ok.ensures)) refl
           (begun_log c.ask-ready.result (with_entry (Line c.args.bytes (text_of c.ask-ready.result)) c.self.inside.machine) c.begin.new.machine may begins) c.put_all.ensures.faults c.put_all.ensures.failed;
     })
+
+pub ask-ready-requires : goal.ask-ready-requires
+ask-ready-requires g c = has_loaded (setting_of c.self.inside.machine) c.self.inside.opening c.builtin_is_a_program.ensures c.self.invariant.setting

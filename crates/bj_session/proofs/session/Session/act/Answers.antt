@@ -1,4 +1,7 @@
-use Rattle.std.proofs.Common.{ap, ◌∙◌}
+use Rattle.std.proofs.Common.{◌≡◌, ◌<◌, true, ap, sym, ◌∙◌, subst}
+use Rattle.bj_history.specs.History.{setting}
+use Rattle.bj_machine.specs.World.{is_enabled}
+use Rattle.bj_session.specs.Desk.{world_of}
 use Rattle.bj_session.specs.Session.{Session}
 use Rattle.bj_session.proofs.Entries.{Acts, goes_act}
 use Rattle.bj_session.proofs.session.Session.act.Goals as goal
@@ -9,7 +12,7 @@ returns-clause-goes g c =
       sound = c.self.invariant;
       was = ap (λ (v : Session). v.ending) c.self.view_is ∙ c.requires.live;
       acted = c.act-sent.ensures;
-      enabled = rw (← c.self.view_is) at c.requires.enabled;
-      left = rw (← c.self.view_is) at c.requires.left;
+      enabled = subst (λ (v : Session). is_enabled (setting v.desk.opening) (world_of v.desk) ≡ true) (sym c.self.view_is) c.requires.enabled;
+      left = subst (λ (v : Session). (world_of v.desk).acts < v.desk.opening.limits.acts) (sym c.self.view_is) c.requires.left;
     } in
     rw (← c.self.view_is, c.ending_after-self-inside.ensures) (goes_act _ _ _ _ _ k)

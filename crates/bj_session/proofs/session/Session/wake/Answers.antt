@@ -1,4 +1,6 @@
-use Rattle.std.proofs.Common.{ap, ◌∙◌}
+use Rattle.std.proofs.Common.{ap, sym, ◌∙◌, subst}
+use Rattle.bj_history.specs.History.{Wakes}
+use Rattle.bj_session.specs.Desk.{world_of}
 use Rattle.bj_session.specs.Session.{Session}
 use Rattle.bj_session.proofs.Entries.{Wakens, sound_wake, goes_wake}
 use Rattle.bj_session.proofs.session.Session.wake.Goals as goal
@@ -10,7 +12,7 @@ invariant_of-self g c =
       was = ap (λ (v : Session). v.ending) c.self.view_is ∙ c.requires.live;
       noted = c.wake-sent.ensures;
       opened = rw (← c.self.view_is) at c.requires.open;
-      wakes = rw (← c.self.view_is) at c.requires.wakes;
+      wakes = subst (λ (v : Session). Wakes v.desk.opening (world_of v.desk) c.args.reason) (sym c.self.view_is) c.requires.wakes;
       over_is = c.is_over-over.ensures.over;
       more_is = c.is_over-over.ensures.more;
     } in
@@ -23,7 +25,7 @@ returns-clause-goes g c =
       was = ap (λ (v : Session). v.ending) c.self.view_is ∙ c.requires.live;
       noted = c.wake-sent.ensures;
       opened = rw (← c.self.view_is) at c.requires.open;
-      wakes = rw (← c.self.view_is) at c.requires.wakes;
+      wakes = subst (λ (v : Session). Wakes v.desk.opening (world_of v.desk) c.args.reason) (sym c.self.view_is) c.requires.wakes;
       over_is = c.is_over-over.ensures.over;
       more_is = c.is_over-over.ensures.more;
     } in
