@@ -12,6 +12,8 @@ use std::{env, io};
 use top::run_alone;
 
 #[cfg(test)]
+mod machine_tests;
+#[cfg(test)]
 mod tests;
 
 /// The status for want of memory.
