@@ -2,7 +2,7 @@
 use Rattle.std.proofs.Common.{◌≡◌, ℕ, zero, suc, ◌+◌, ◌<◌, ◌==◌, Bool, true, false, List, [], ◌∷◌, ◌++◌, length, take, drop, get_or, arith, append_assoc}
 use Rattle.std.proofs.lemmas.List.{append-nil}
 use Rattle.std.proofs.lemmas.Bool.Decides.{nat_tests}
-use Rattle.bj_command.specs.Items.{items, items_from, line_then, last_line, without_cr, is_lf}
+use Rattle.bj_command.specs.Items.{items, items_from, line_then, last_line, without_cr}
 
 -- the line that has begun ends at the first LF
 pub items-line : (begun xs more : List ℕ) (n : ℕ) (ended : Bool) → n < length xs → ((k : ℕ) → k < n → get_or xs k 0 ≡ 10 → ⊥) → get_or xs n 0 ≡ 10

@@ -1,4 +1,6 @@
 pub mod Cuts
 pub mod Utf8
-pub mod Short
 pub mod Forms
+pub mod Short
+pub mod Pads
+pub mod Quits

@@ -1,5 +1,5 @@
 -- How the bytes of the input are cut into lines.
-use Rattle.std.specs.Prelude.{ℕ, ◌≡◌, ◌+◌, ◌-◌, ◌==◌, Bool, true, false, if◌then◌else◌, length, take, slice_index, List, [], ◌∷◌, ◌++◌}
+use Rattle.std.specs.Prelude.{ℕ, ◌≡◌, ◌+◌, ◌-◌, ◌==◌, Bool, if◌then◌else◌, length, take, slice_index, List, [], ◌∷◌, ◌++◌}
 use Rattle.bj_command.specs.Words.{is_quit}
 
 -- a line ends at LF

@@ -1,12 +1,9 @@
-ghost use Rattle.std.specs.Prelude.{◌≡◌, ◌≤◌, ◌<◌, ℕ, List, Ok, length, not};
-ghost use Rattle.std.specs.List.{position_or_len};
-ghost use Rattle.bj_command.specs.Words.{HasForm, IsForm, form_of, is_quit, named_form, next_word, word_end, is_space, utf8_fault};
+ghost use Rattle.std.specs.Prelude.{◌≡◌, ℕ, Bool, true, false, List, Ok};
+ghost use Rattle.bj_command.specs.Words.{IsForm, IsOfPad, IsShort, form_in, form_of, is_quit};
 
-use bj_core::{Bytes, NoMemory, Seq};
+use crate::form::{Form, line_form};
+use bj_core::{Bytes, Name, NoMemory, Seq};
 use std::alloc::Global;
-
-/// The most bytes of a line.
-pub const LONGEST: usize = 65_536;
 
 /// What a console line asks for, named after its first word.
 #[derive(Drop)]
@@ -15,6 +12,16 @@ pub enum Command {
     Blank,
     /// `pad L`, with the text of Java `L`.
     Pad { text: Bytes },
+    /// `new x C(args)`, with the name `x` and the text of Java `C(args)`.
+    New { name: Name, text: Bytes },
+    /// `call E`, with the text of Java `E`.
+    Call { text: Bytes },
+    /// `inspect x`, with the name `x`.
+    Inspect { name: Name },
+    /// `wait`
+    Wait,
+    /// A line that begins with a word of the console and has a form that is not built.
+    Unbuilt,
     /// `quit`
     Quit,
 }
@@ -30,144 +37,90 @@ pub enum LineFault {
     NoMemory,
 }
 
-/// How many spaces there are in front.
-fn count_spaces(bytes: &[u8]) -> usize
-    ensures count { result ≡ position_or_len (λ byte. not (is_space byte)) bytes.now }
-    ensures within { result ≤ length bytes.now }
+impl From<NoMemory> for LineFault {
+    ghost use Rattle.bj_command.specs.declared.command.LineFault.TheVariants as fault;
+
+    ghost from_gives = { λ _ e. e ≡ fault.NoMemory };
+
+    fn from(_fault: NoMemory) -> LineFault {
+        LineFault::NoMemory
+    }
+}
+
+/// What a line of `pad` or of `bench` asks for.
+fn command_of(alloc: Global, pad: bool, line: &[u8]) -> Result<Command, LineFault>
+    ensures { IsForm result (form_in pad line.now) }
 {
-    for (i, byte) in bytes.iter().enumerate() {
-        if *byte != b' ' {
-            return i;
+    match line_form(pad, line) {
+        Form::Blank => Ok(Command::Blank),
+        Form::Pad { text } => {
+            let text = Seq::from_slice(alloc, &line[text..])?;
+            Ok(Command::Pad { text })
         }
-    }
-    bytes.len()
-}
-
-/// How many bytes there are in front of the first space.
-fn count_others(bytes: &[u8]) -> usize
-    ensures count { result ≡ position_or_len is_space bytes.now }
-    ensures within { result ≤ length bytes.now }
-{
-    for (i, byte) in bytes.iter().enumerate() {
-        if *byte == b' ' {
-            return i;
+        Form::New { start, stop, text } => {
+            let name = Name::from_slice(alloc, &line[start..stop])?;
+            let text = Seq::from_slice(alloc, &line[text..])?;
+            Ok(Command::New { name, text })
         }
-    }
-    bytes.len()
-}
-
-/// Where the word behind a place begins, or the end of the line.
-fn next_word(line: &[u8], place: usize) -> usize
-    requires { place ≤ length line.now }
-    ensures next { result ≡ next_word line.now place }
-    ensures within { result ≤ length line.now }
-    ensures behind { place ≤ result }
-{
-    place + count_spaces(&line[place..])
-}
-
-/// Where the word ends that begins at a place.
-fn word_end(line: &[u8], place: usize) -> usize
-    requires { place ≤ length line.now }
-    ensures end { result ≡ word_end line.now place }
-    ensures behind { place ≤ result }
-    ensures within { result ≤ length line.now }
-{
-    place + count_others(&line[place..])
-}
-
-/// The place, from 1, of the first byte that is no UTF-8.
-fn utf8_fault(line: &[u8]) -> Option<usize>
-    ensures fault { result ≡ utf8_fault line.now }
-{
-    match std::str::from_utf8(line) {
-        Ok(_) => None,
-        Err(fault) => Some(fault.valid_up_to() + 1),
+        Form::Call { text } => {
+            let text = Seq::from_slice(alloc, &line[text..])?;
+            Ok(Command::Call { text })
+        }
+        Form::Inspect { start, stop } => {
+            let name = Name::from_slice(alloc, &line[start..stop])?;
+            Ok(Command::Inspect { name })
+        }
+        Form::Wait => Ok(Command::Wait),
+        Form::Unbuilt => Ok(Command::Unbuilt),
+        Form::Quit => Ok(Command::Quit),
+        Form::Bad { at } => Err(LineFault::BadLine { at }),
     }
 }
 
-/// The form of a line, with places in it.
-#[derive(Clone, Copy, PartialEq, Eq)]
-enum Form {
-    Blank,
-    /// `pad`, with the place from 0 at which its text begins.
-    Pad { text: usize },
-    Quit,
-    /// None, with the place of its fault from 1.
-    Bad { at: usize },
-}
-
-/// The form of a line.
-fn line_form(line: &[u8]) -> Form
-    ensures { HasForm line.now (form_of line.now) result }
-{
-    if line.len() > LONGEST {
-        return Form::Bad { at: LONGEST + 1 };
-    }
-    match utf8_fault(line) {
-        Some(at) => return Form::Bad { at },
-        None => {}
-    }
-    let start = next_word(line, 0);
-    if start == line.len() {
-        return Form::Blank;
-    }
-    named_form(line, start)
-}
-
-/// The form that the first word names, which begins at a place.
-fn named_form(line: &[u8], start: usize) -> Form
-    requires { start < length line.now }
-    ensures { HasForm line.now (named_form line.now start (word_end line.now start)) result }
-{
-    let stop = word_end(line, start);
-    let behind = next_word(line, stop);
-    let word = &line[start..stop];
-    if word == b"pad".as_slice() {
-        return if behind == line.len() {
-            Form::Bad { at: behind + 1 }
-        } else {
-            Form::Pad { text: behind }
-        };
-    }
-    if word != b"quit".as_slice() {
-        return Form::Bad { at: start + 1 };
-    }
-    if behind != line.len() {
-        return Form::Bad { at: behind + 1 };
-    }
-    Form::Quit
-}
-
-/// What a line asks for. A blank line and `quit` take no memory.
+/// What a line of `bench` asks for. A blank line and `quit` take no memory.
 ///
 /// # Errors
 ///
-/// `BadLine` with its place, exactly where the line is of no form; `NoMemory` only where there is a text to be kept.
+/// `BadLine` with its place, exactly where the line is of no form; `NoMemory` only where there is a name or a
+/// text to be kept.
 #[tactic(auto, using(crate::proofs::Short::short_form))]
 pub fn read_line(alloc: Global, line: &[u8]) -> Result<Command, LineFault>
     ensures form { IsForm result (form_of line.now) }
-    ensures short { (text : List ℕ) → form_of line.now ≡ Ok (Command.Pad text) → length text ≤ 65536 }
+    ensures short { IsShort (form_of line.now) }
 {
-    match line_form(line) {
-        Form::Blank => Ok(Command::Blank),
-        Form::Quit => Ok(Command::Quit),
-        Form::Bad { at } => Err(LineFault::BadLine { at }),
-        Form::Pad { text } => match Seq::from_slice(alloc, &line[text..]) {
-            Ok(text) => Ok(Command::Pad { text }),
-            Err(NoMemory) => Err(LineFault::NoMemory),
-        },
-    }
+    command_of(alloc, false, line)
 }
 
-/// Whether a line is `quit`. Takes no memory.
+/// What a line of `pad` asks for, as `read_line` does: there a line that begins with a word other than `pad` and `quit` is
+/// bad at that word.
+///
+/// # Errors
+///
+/// As those of `read_line`.
+#[tactic(auto, using(crate::proofs::Short::short_form))]
+pub fn read_pad_line(alloc: Global, line: &[u8]) -> Result<Command, LineFault>
+    ensures form { IsForm result (form_in true line.now) }
+    ensures short { IsShort (form_in true line.now) }
+{
+    command_of(alloc, true, line)
+}
+
+/// Whether a line is `quit`, which `pad` and `bench` read alike. Takes no memory.
 pub fn is_quit(line: &[u8]) -> bool
     ensures { result ≡ is_quit line.now }
 {
-    match line_form(line) {
-        Form::Quit => true,
-        Form::Blank => false,
-        Form::Pad { text: _ } => false,
-        Form::Bad { at: _ } => false,
-    }
+    matches!(line_form(false, line), Form::Quit)
 }
+
+/// A line that is `quit` is so in `pad` as in `bench`, and no other is.
+#[tactic(auto, using(crate::proofs::Quits::quit_in, crate::proofs::Quits::quit_from))]
+pub fn quit_is_quit()
+    ensures quit { (pad : Bool) (line : List ℕ) → is_quit line ≡ true → form_in pad line ≡ Ok Command.Quit }
+    ensures only { (pad : Bool) (line : List ℕ) → form_in pad line ≡ Ok Command.Quit → is_quit line ≡ true }
+{}
+
+/// In `pad` a line asks for nothing but a codepad text, `quit`, or nothing.
+#[tactic(auto, using(crate::proofs::Pads::form_of_pad))]
+pub fn pad_reads_few_forms()
+    ensures { (line : List ℕ) → IsOfPad (form_in true line) }
+{}

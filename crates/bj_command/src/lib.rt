@@ -3,8 +3,12 @@
 
 mod command;
 mod cut;
+mod form;
+mod scan;
 
-pub use command::{Command, LineFault, is_quit, read_line};
+pub use command::{
+    Command, LineFault, is_quit, pad_reads_few_forms, quit_is_quit, read_line, read_pad_line,
+};
 pub use cut::{Lines, count_lines, drop_cr, line_end};
 
 #[cfg(test)]

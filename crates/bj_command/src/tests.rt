@@ -1,9 +1,44 @@
-use crate::{Command, LineFault, Lines, count_lines, drop_cr, is_quit, line_end, read_line};
+use crate::{
+    Command, LineFault, Lines, count_lines, drop_cr, is_quit, line_end, read_line, read_pad_line,
+};
 use std::alloc::Global;
 use std::test::*;
 
+/// The answer is `pad` with this text.
+fn is_pad(read: &Result<Command, LineFault>, wanted: &[u8]) -> bool {
+    match read {
+        Ok(Command::Pad { text }) => text.as_slice() == wanted,
+        _ => false,
+    }
+}
+
+/// The answer is `new` with this name and text.
+fn is_new(read: &Result<Command, LineFault>, wanted: (&[u8], &[u8])) -> bool {
+    match read {
+        Ok(Command::New { name, text }) => name.as_slice() == wanted.0
+            && text.as_slice() == wanted.1,
+        _ => false,
+    }
+}
+
+/// The answer is `call` with this text.
+fn is_call(read: &Result<Command, LineFault>, wanted: &[u8]) -> bool {
+    match read {
+        Ok(Command::Call { text }) => text.as_slice() == wanted,
+        _ => false,
+    }
+}
+
+/// The answer is `inspect` with this name.
+fn is_inspect(read: &Result<Command, LineFault>, wanted: &[u8]) -> bool {
+    match read {
+        Ok(Command::Inspect { name }) => name.as_slice() == wanted,
+        _ => false,
+    }
+}
+
 #[test]
-fn each_form_is_read(rt: HostRuntime) -> Result<(), Fail> {
+fn each_form_is_read(rt: HostRuntime) {
     let alloc = rt.alloc();
     assert!(&rt; matches!(read_line(alloc, b""), Ok(Command::Blank)));
     assert!(&rt; matches!(read_line(alloc, b"   "), Ok(Command::Blank)));
@@ -11,16 +46,57 @@ fn each_form_is_read(rt: HostRuntime) -> Result<(), Fail> {
     assert!(&rt; matches!(read_line(alloc, b"  quit "), Ok(Command::Quit)));
     assert!(&rt; is_quit(b" quit"));
     assert!(&rt; !is_quit(b"quit x") && !is_quit(b"") && !is_quit(b"pad quit"));
-    match read_line(alloc, b" pad  1 + 2 ") {
-        Ok(Command::Pad { text }) => assert!(&rt; text.as_slice() == b"1 + 2 ".as_slice()),
-        _ => assert!(&rt; false),
-    }
-    Ok(())
+    assert!(&rt; is_pad(&read_line(alloc, b" pad  1 + 2 "), b"1 + 2 "));
 }
 
-/// The place of the fault of a line, or 0.
-fn fault_place(alloc: Global, line: &[u8]) -> usize {
-    match read_line(alloc, line) {
+#[test]
+fn a_name_and_a_text_are_given(rt: HostRuntime) {
+    let alloc = rt.alloc();
+    assert!(&rt; is_new(&read_line(alloc, b"new x Cell(5)"), (b"x", b"Cell(5)")));
+    assert!(&rt;
+        is_new(
+            &read_line(alloc, b"  new  cell  Cell( 5 ) "),
+            (b"cell", b"Cell( 5 ) ")
+        )
+    );
+    assert!(&rt; is_call(&read_line(alloc, b"call  c.get() "), b"c.get() "));
+    assert!(&rt; is_inspect(&read_line(alloc, b"inspect c"), b"c"));
+    assert!(&rt; is_inspect(&read_line(alloc, b" inspect  cell "), b"cell"));
+}
+
+#[test]
+fn wait_stands_alone(rt: HostRuntime) {
+    let alloc = rt.alloc();
+    assert!(&rt; matches!(read_line(alloc, b"wait"), Ok(Command::Wait)));
+    assert!(&rt; matches!(read_line(alloc, b"  wait "), Ok(Command::Wait)));
+    assert!(&rt; matches!(read_line(alloc, b"wait 5"), Ok(Command::Unbuilt)));
+    assert!(&rt; matches!(read_line(alloc, b"wait jobs"), Ok(Command::Unbuilt)));
+}
+
+#[test]
+fn pad_reads_its_own_words(rt: HostRuntime) {
+    let alloc = rt.alloc();
+    assert!(&rt; matches!(read_pad_line(alloc, b""), Ok(Command::Blank)));
+    assert!(&rt; matches!(read_pad_line(alloc, b"  "), Ok(Command::Blank)));
+    assert!(&rt; matches!(read_pad_line(alloc, b"quit"), Ok(Command::Quit)));
+    assert!(&rt; is_pad(&read_pad_line(alloc, b"pad 1 + 2"), b"1 + 2"));
+    let lines: [(&[u8], usize); 7] = [
+        (b"inspect", 1),
+        (b"  inspect", 3),
+        (b"new x Cell(5)", 1),
+        (b"call c.get()", 1),
+        (b"wait", 1),
+        (b"pad", 4),
+        (b"quit now", 6),
+    ];
+    for (line, at) in lines {
+        assert_eq!(&rt; place_of(read_pad_line(alloc, line)), at);
+    }
+}
+
+/// The place of a fault, or 0.
+fn place_of(read: Result<Command, LineFault>) -> usize {
+    match read {
         Err(LineFault::BadLine { at }) => at,
         _ => 0,
     }
@@ -29,7 +105,7 @@ fn fault_place(alloc: Global, line: &[u8]) -> usize {
 #[test]
 fn a_bad_line_is_told_at_its_place(rt: HostRuntime) -> Result<(), Fail> {
     let alloc = rt.alloc();
-    let lines: [(&[u8], usize); 9] = [
+    let lines: [(&[u8], usize); 16] = [
         (b"flub", 1),
         (b"  flub", 3),
         (b"pad", 4),
@@ -39,14 +115,21 @@ fn a_bad_line_is_told_at_its_place(rt: HostRuntime) -> Result<(), Fail> {
         (b"\x61\xff", 2),
         (b"pad \xe2\x82", 5),
         (b"Quit", 1),
+        (b"new", 4),
+        (b"new x", 6),
+        (b" new x ", 8),
+        (b"call", 5),
+        (b"inspect", 8),
+        (b"inspect c d", 11),
+        (b"  waits", 3),
     ];
     for (line, at) in lines {
-        assert_eq!(&rt; fault_place(alloc, line), at);
+        assert_eq!(&rt; place_of(read_line(alloc, line)), at);
     }
     let long = vec![in alloc; b'x'; 65_537]?;
-    assert_eq!(&rt; fault_place(alloc, long.as_slice()), 65_537);
+    assert_eq!(&rt; place_of(read_line(alloc, long.as_slice())), 65_537);
     let longest = vec![in alloc; b'x'; 65_536]?;
-    assert_eq!(&rt; fault_place(alloc, longest.as_slice()), 1);
+    assert_eq!(&rt; place_of(read_line(alloc, longest.as_slice())), 1);
     Ok(())
 }
 

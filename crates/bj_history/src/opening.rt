@@ -14,4 +14,6 @@ pub struct Opening {
 pub enum Wait {
     /// One of which nothing is written.
     Silent,
+    /// That of a line `wait`, of whose end an event tells.
+    Told,
 }

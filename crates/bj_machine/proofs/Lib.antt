@@ -2,4 +2,6 @@ pub mod Defaults
 pub mod Allowing
 pub mod Living
 pub mod Logs
+pub mod Rooms
 pub mod Machines
+pub mod Resets

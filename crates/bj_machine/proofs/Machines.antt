@@ -6,7 +6,6 @@ use Rattle.bj_core.specs.declared.action.Action.{Action}
 use Rattle.bj_core.specs.declared.action.Action.TheVariants.{End}
 use Rattle.bj_core.specs.declared.action.Answer.{Answer}
 use Rattle.bj_core.specs.declared.action.Done.{Done as Ending}
-use Rattle.bj_core.specs.declared.entry.Entry.{Entry}
 use Rattle.bj_core.specs.declared.entry.Entry.TheVariants.{Act}
 use Rattle.bj_core.specs.declared.frame.Frame.{Frame}
 use Rattle.bj_core.specs.declared.frame.Term.{Term}
@@ -23,6 +22,7 @@ use Rattle.bj_exec.specs.Follows.{Follows}
 use Rattle.bj_store.specs.declared.reaction.Block.{Block}
 use Rattle.bj_store.specs.State.{State, fresh, with_lives, lives}
 use Rattle.bj_store.specs.React.{Outcome, Answered, Blocked, react, block_of}
+use Rattle.bj_machine.specs.Kept.{LogValue, HasEntry}
 use Rattle.bj_machine.specs.World.{World, Told, Setting, opened, next_action, reaction, reacts_to, answer_of, state_after, is_enabled, acted, main_after, begun}
 use Rattle.bj_machine.specs.Shown.{Shown, At, Stands, IsSound, IsLiving, HasFields, Finishes, HasActed, HasBegun, setting_of, end_of, end_in, end_wanted, rests, rests_main, can_move, can_step}
 
@@ -86,7 +86,7 @@ pub ends_living : (v : Shown) (d : Ending) → IsSound v → end_of v.main ≡ S
 ends_living v d sound e = sound.store.living ∙ end_busy v.main d e
 
 -- a new machine
-pub sound_new : (program : Program) (code : Code) (limits : Limits) (s : State) (log : List Entry) → s ≡ fresh program limits → IsKept program (fresh program limits) → HasFields program
+pub sound_new : (program : Program) (code : Code) (limits : Limits) (s : State) (log : LogValue) → s ≡ fresh program limits → IsKept program (fresh program limits) → HasFields program
     → 2 ≤ limits.frames → code ≡ program_code program → IsSound (record { program = program; code = code; limits = limits; store = s; log = log; main = None; acts = 0 })
 sound_new program code limits s log is_fresh kept fields enough is_code = record {
   world = opened (record { program = program; limits = limits });
@@ -111,16 +111,18 @@ main_acted : (o : Setting) (w : World) (a : Action) (x : Answer) (d : Told) → 
 main_acted o w a x d e m n = ap (λ (b : Option Action). main_after b x w.main) e ∙ (ap (λ (p : Option Told). main_after (Some a) x p) m ∙ main_goes a x d n)
 
 -- the machine after an action of the main thread
-abbrev pub acted_by : Shown → State → List Entry → Option Thread → Shown
+abbrev pub acted_by : Shown → State → LogValue → Option Thread → Shown
 acted_by v store log main = record { program = v.program; code = v.code; limits = v.limits; store = store; log = log; main = main; acts = v.acts + 1 }
 
-pub does_act : (v : Shown) (t u : Thread) (a : Action) (frames : List Frame) (x : Answer) (s : State) (log : List Entry) → Wanted v t a frames → t.run.want ≡ want.Do a
-    → end_in (Some a) ≡ None → react v.program v.store 1 a ≡ Answered x s → v.acts < v.limits.acts → log ≡ Act 1 x ∷ v.log
+pub does_act : (v : Shown) (t u : Thread) (a b : Action) (frames : List Frame) (x : Answer) (s : State) (log : LogValue) → Wanted v t a frames → t.run.want ≡ want.Do a
+    → end_in (Some a) ≡ None → react v.program v.store 1 a ≡ Answered x s → v.acts < v.limits.acts → b ≡ a → HasEntry (Act 1 x) (Some b) v.log log
     → ((term : Term) (answers : List Answer) → Follows v.program v.code v.limits.frames term answers t → Follows v.program v.code v.limits.frames term (answers ++ x ∷ []) u)
     → HasActed v (acted_by v s log (Some u)) 1
-does_act v t u a frames x s log k wants n reacts left logged follows = record {
+does_act v t u a b frames x s log k wants n reacts left same logged follows = record {
   answer = x;
-  log = logged;
+  log = logged.entries;
+  actions = λ w st. logged.actions ∙ ap (λ (o : Option Action). o ∷ v.log.actions) (ap (λ (c : Action). Some c) same ∙ sym (next_wanted v t a frames k w st));
+  room = logged.room;
   keeps = record { program = refl; code = refl; limits = refl };
   acts = refl;
   world = λ w st.
@@ -142,11 +144,15 @@ does_act v t u a frames x s log k wants n reacts left logged follows = record {
 some_same : (a b : Ending) → Some a ≡ Some b → a ≡ b
 some_same a b e = cc
 
-pub does_end : (v : Shown) (d : Ending) (x : Answer) (s : State) (log : List Entry) → Finishes v → end_of v.main ≡ Some d → react v.program v.store 1 (End d) ≡ Answered x s → v.acts < v.limits.acts → log ≡ Act 1 x ∷ v.log
+pub does_end : (v : Shown) (d : Ending) (x : Answer) (s : State) (log : LogValue) → Finishes v → end_of v.main ≡ Some d → react v.program v.store 1 (End d) ≡ Answered x s → v.acts < v.limits.acts → HasEntry (Act 1 x) (Some (End d)) v.log log
     → HasActed v (acted_by v s log None) 1
 does_end v d x s log k over reacts left logged = record {
   answer = x;
-  log = logged;
+  log = logged.entries;
+  actions = λ w st.
+      let same : k.done ≡ d = some_same k.done d (sym k.ends ∙ over) in
+      logged.actions ∙ ap (λ (o : Option Action). o ∷ v.log.actions) (sym (k.next w st ∙ ap (λ (b : Ending). Some (End b)) same));
+  room = logged.room;
   keeps = record { program = refl; code = refl; limits = refl };
   acts = refl;
   world = λ w st.
@@ -165,7 +171,7 @@ does_end v d x s log k over reacts left logged = record {
   end = λ w st. k.ends ∙ ap end_in (sym (k.next w st));
 }
 
-pub sound_acted : (v : Shown) (s : State) (log : List Entry) (main : Option Thread) → IsSound v → v.acts < v.limits.acts → IsLiving v.program s (is_some main)
+pub sound_acted : (v : Shown) (s : State) (log : LogValue) (main : Option Thread) → IsSound v → v.acts < v.limits.acts → IsLiving v.program s (is_some main)
     → HasActed v (acted_by v s log main) 1 → IsSound (acted_by v s log main)
 sound_acted v s log main sound left living h = record {
   world = acted (setting_of v) sound.world h.answer;
@@ -187,11 +193,11 @@ moving_can v None e = absurd cc
 moving_can v (Some t) e = moving_wants v t.run.want e
 
 -- the machine where a term begins
-abbrev pub begun_by : Shown → State → Thread → Shown
-begun_by v s t = record { program = v.program; code = v.code; limits = v.limits; store = s; log = v.log; main = Some t; acts = v.acts }
+abbrev pub started : Shown → State → Thread → Shown
+started v s t = record { program = v.program; code = v.code; limits = v.limits; store = s; log = v.log; main = Some t; acts = v.acts }
 
 -- a term begins
-pub does_begin : (v : Shown) (s : State) (t : Thread) (term : Term) → s ≡ with_lives v.store 1 true → Follows v.program v.code v.limits.frames term [] t → HasBegun v (begun_by v s t) term
+pub does_begin : (v : Shown) (s : State) (t : Thread) (term : Term) → s ≡ with_lives v.store 1 true → Follows v.program v.code v.limits.frames term [] t → HasBegun v (started v s t) term
 does_begin v s t term lived follows = record {
   log = refl;
   keeps = record { program = refl; code = refl; limits = refl };
@@ -200,7 +206,7 @@ does_begin v s t term lived follows = record {
 }
 
 pub sound_begun : (v : Shown) (s : State) (t : Thread) (term : Term) → s ≡ with_lives v.store 1 true → Follows v.program v.code v.limits.frames term [] t → IsLiving v.program (with_lives v.store 1 true) true → IsSound v
-    → IsSound (begun_by v s t)
+    → IsSound (started v s t)
 sound_begun v s t term lived follows living sound = record {
   world = begun sound.world term;
   stands = (does_begin v s t term lived follows).world sound.world sound.stands;

@@ -1,2 +1,4 @@
+pub mod Kept
 pub mod World
 pub mod Shown
+pub mod Reset

@@ -1,5 +1,5 @@
 -- The machine as its callers see it, and for which abstract machine it stands.
-use Rattle.std.specs.Prelude.{ℕ, ◌≡◌, ◌+◌, ◌≤◌, List, [], ◌∷◌, Option, Some, None, Bool, true, false, if◌then◌else◌, is_some, All, ◌≢◌}
+use Rattle.std.specs.Prelude.{ℕ, ◌≡◌, ◌+◌, ◌≤◌, List, [], ◌∷◌, Option, Some, None, Bool, true, false, if◌then◌else◌, not, is_some, All, ◌≢◌}
 use Rattle.bj_core.specs.declared.action.Action.{Action}
 use Rattle.bj_core.specs.declared.action.Action.TheVariants.{End}
 use Rattle.bj_core.specs.declared.action.Answer.{Answer}
@@ -20,19 +20,20 @@ use Rattle.bj_exec.specs.declared.run.Want.TheVariants as want
 use Rattle.bj_exec.specs.Follows.{Follows}
 use Rattle.bj_machine.specs.declared.machine.Step.{Step}
 use Rattle.bj_machine.specs.declared.machine.Step.TheVariants.{Acted, Moved, Idle, Spent, NoMemory}
+use Rattle.bj_machine.specs.Kept.{LogValue, with_log_room}
 use Rattle.bj_machine.specs.World.{Setting, Told, World, opened, next_action, is_enabled, acted, begun, answer_of, MayAct}
 use Rattle.bj_store.specs.State.{State, row_at, lives}
-use Rattle.bj_store.specs.React.{react}
+use Rattle.bj_store.specs.React.{react, takes_memory}
 use Rattle.bj_store.specs.Kept.{IsKept}
 
--- the program, the code and the limits; the store's state; the log, the newest entry first; the main thread, while it has a
--- term; and how many actions were done
+-- the program, the code and the limits; the store's state; the log; the main thread, while it has a term; and how many actions
+-- were done
 pub record Shown : Type 0 where
   pub program : Program
   pub code : Code
   pub limits : Limits
   pub store : State
-  pub log : List Entry
+  pub log : LogValue
   pub main : Option Thread
   pub acts : ℕ
 
@@ -78,7 +79,8 @@ pub record IsSound (v : Shown) : Type 0 where
 -- nothing has happened
 pub record IsFresh (program : Program) (limits : Limits) (v : Shown) : Type 0 where
   pub made : setting_of v ≡ record { program = program; limits = limits }
-  pub log : v.log ≡ []
+  pub log : v.log.entries ≡ []
+  pub actions : v.log.actions ≡ []
   pub stands : Stands v (opened (setting_of v))
 
 -- the thread is about to begin with the term
@@ -119,16 +121,25 @@ pub record Finishes (v : Shown) : Type 0 where
   pub ends : end_of v.main ≡ Some done
   pub next : (w : World) → Stands v w → next_action (setting_of v) w ≡ Some (End done)
 
--- all stays but for the main thread, the log and the count
+abbrev pub with_room : ℕ → Shown → Shown
+with_room room v = record { program = v.program; code = v.code; limits = v.limits; store = v.store; log = with_log_room room v.log; main = v.main; acts = v.acts }
+
+-- all is as before, and there is no less room in the log
+abbrev pub IsSame : Shown → Shown → Type 0
+IsSame old new = (room : ℕ) × (old.log.room ≤ room) × (new ≡ with_room room old)
+
+-- all stays but for the store, the main thread, the log and the count
 pub record KeepsSetting (old new : Shown) : Type 0 where
   pub program : new.program ≡ old.program
   pub code : new.code ≡ old.code
   pub limits : new.limits ≡ old.limits
 
--- the main thread's next action was done
+-- the main thread's next action was done, and the log has it beside its answer
 pub record HasActed (old new : Shown) (thread : ℕ) : Type 0 where
   pub answer : Answer
-  pub log : new.log ≡ Act thread answer ∷ old.log
+  pub log : new.log.entries ≡ Act thread answer ∷ old.log.entries
+  pub actions : (w : World) → Stands old w → new.log.actions ≡ next_action (setting_of old) w ∷ old.log.actions
+  pub room : old.log.room ≤ new.log.room + 1
   pub keeps : KeepsSetting old new
   pub acts : new.acts ≡ old.acts + 1
   pub world : (w : World) → Stands old w → MayAct (setting_of old) w thread answer × Stands new (acted (setting_of old) w answer)
@@ -154,7 +165,17 @@ Steps (Acted thread place) old new = HasActed old new thread
 Steps (Moved thread) old new = HasMoved old new × (rests_main old.main ≡ false)
 Steps Idle old new = (new ≡ old) × (rests_main old.main ≡ true) × ((w : World) → Stands old w → is_enabled (setting_of old) w ≡ false)
 Steps (Spent count) old new = (new ≡ old) × (old.acts ≡ old.limits.acts)
-Steps NoMemory old new = new ≡ old
+Steps NoMemory old new = IsSame old new
+
+-- the next action takes no memory
+abbrev pub wants_no_memory : Want → Bool
+wants_no_memory want.Move = false
+wants_no_memory (want.Do a) = not (takes_memory a)
+wants_no_memory (want.Over d) = true
+
+abbrev pub asks_no_memory : Option Thread → Bool
+asks_no_memory None = true
+asks_no_memory (Some t) = wants_no_memory t.run.want
 
 -- the threads that are enabled
 abbrev pub enabled_list : Bool → List ℕ
@@ -170,6 +191,12 @@ abbrev pub can_step : Shown → Option Thread → Bool
 can_step v None = false
 can_step v (Some t) = can_move v t.run.want
 
--- an entry more
-abbrev pub with_entry : Entry → Shown → Shown
-with_entry e v = record { program = v.program; code = v.code; limits = v.limits; store = v.store; log = e ∷ v.log; main = v.main; acts = v.acts }
+-- the log has an entry more, which is no act
+pub record HasNoted (entry : Entry) (old new : Shown) : Type 0 where
+  pub log : new.log.entries ≡ entry ∷ old.log.entries
+  pub actions : new.log.actions ≡ None ∷ old.log.actions
+  pub room : old.log.room ≤ new.log.room + 1
+  pub keeps : KeepsSetting old new
+  pub store : new.store ≡ old.store
+  pub main : new.main ≡ old.main
+  pub acts : new.acts ≡ old.acts

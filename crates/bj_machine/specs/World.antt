@@ -84,3 +84,17 @@ pub record MayAct (o : Setting) (w : World) (thread : ℕ) (x : Answer) : Type 0
 -- a term begins on the main thread
 abbrev pub begun : World → Term → World
 begun w term = record { store = with_lives w.store 1 true; main = Some (record { term = term; answers = [] }); acts = w.acts }
+
+-- the term, if there is one, begins on the main thread
+abbrev pub begun_by : Option Term → World → World
+begun_by None w = w
+begun_by (Some term) w = begun w term
+
+-- the store is new, and the main thread has no term; the count of acts stays
+abbrev pub reset_world : Setting → World → World
+reset_world o w = record { store = fresh o.program o.limits; main = None; acts = w.acts }
+
+-- the store where the term, if there is one, has begun
+abbrev pub begun_store : Option Term → State → State
+begun_store None s = s
+begun_store (Some term) s = with_lives s 1 true

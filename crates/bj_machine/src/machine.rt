@@ -1,4 +1,5 @@
-ghost use Rattle.std.specs.Prelude.{◌≡◌, ◌∷◌, [], ◌≤◌, ◌<◌, ℕ, List, IfOk, OnOk, OnErr, IsSome, is_some, Some, None, Err, true, false};
+ghost use Rattle.std.specs.Prelude.{◌≡◌, ◌≢◌, ◌∷◌, [], ◌≤◌, ◌<◌, ℕ, List, IfOk, OnOk, OnErr, IsSome, is_some, Some, None, Ok, Err, true, false};
+ghost use Rattle.std.specs.Option.{option_copied};
 ghost use Rattle.bj_core.specs.declared.action.Action.TheVariants.{End};
 ghost use Rattle.bj_core.specs.declared.action.Answer.{Answer as AnswerOf};
 ghost use Rattle.bj_core.specs.declared.action.Done.{Done as DoneOf};
@@ -7,18 +8,24 @@ ghost use Rattle.bj_eval.specs.Typed.{IsTyped};
 ghost use Rattle.bj_code.specs.ProgramCode.{program_code};
 ghost use Rattle.bj_exec.specs.Follows.{Follows, IsOn};
 ghost use Rattle.bj_machine.specs.World.{World, is_enabled, next_action};
-ghost use Rattle.bj_machine.specs.Shown.{Stands, IsFresh, IsReady, IsSettled, HasMoved, HasBegun, HasFields, Steps, Finishes, setting_of, end_in, end_of, enabled_list, rests, rests_main, can_step, with_entry};
+ghost use Rattle.bj_machine.specs.Shown.{Stands, IsFresh, IsReady, IsSettled, HasMoved, HasBegun, HasFields, HasNoted, IsSame, Steps, Finishes, setting_of, end_in, end_of, enabled_list, rests, rests_main, can_step, asks_no_memory};
 
 use crate::Log;
-use crate::acting::{MAIN, act_on, end_on, let_go};
+use crate::acting::{MAIN, act_on, end_on, keep};
+use crate::beginning::start;
+use crate::dropped::{dismiss, forsake};
 use crate::laws::{answers_are_allowed, stores_know_what_lives};
 use bj_code::Code;
 use bj_core::{Action, Done, Entry, Limits, NoMemory, Program, Term};
 use bj_exec::{Thread, Want};
-use bj_gen::generate_term;
 use bj_store::{Store, ends_are_answered, new_stores_are_kept};
 use std::alloc::Global;
 use std::marker::Model;
+
+mod reset;
+
+/// For how many entries more `reserve` makes room.
+const RESERVED: usize = 32;
 
 /// What a step did.
 #[derive(Clone, Copy, Debug, PartialEq, Eq)]
@@ -84,12 +91,6 @@ fn end_in(action: &Action) -> Option<Done>
     }
 }
 
-/// Lets a thread go. Its drop stands here alone, so that no caller's proof goes through it.
-fn dismiss(_thread: Option<Thread>) {}
-
-/// Lets a program and its code go, as `dismiss` does a thread.
-fn forsake(_program: Program, _code: Code) {}
-
 /// The thread does its instructions that ask for nothing, up to its next action.
 fn settle_thread(
     alloc: Global,
@@ -148,6 +149,32 @@ impl Machine {
                 forsake(program, code);
                 Err(NoMemory)
             }
+        }
+    }
+
+    /// The program.
+    pub fn program(&self) -> &Program
+        ensures { result.now ≡ self.now.program }
+    {
+        &self.program
+    }
+
+    /// The state that all threads share.
+    pub fn store(&self) -> &Store
+        ensures { result.now ≡ self.now.store }
+    {
+        &self.store
+    }
+
+    /// The living thread of a number: the main thread is 1, while it has a term.
+    pub fn thread(&self, thread: u32) -> Option<&Thread>
+        ensures main { thread ≡ 1 → option_copied result ≡ self.now.main }
+        ensures other { thread ≢ 1 → result ≡ None }
+    {
+        if thread == MAIN {
+            self.main.as_ref()
+        } else {
+            None
         }
     }
 
@@ -238,9 +265,7 @@ impl Machine {
         requires { IsTyped self.now.program term }
         ensures { IfOk result (λ thread. IsReady self.now term thread) }
     {
-        let body = generate_term(self.alloc, &self.program, &term)?;
-        let thread = Thread::start(self.alloc, term, body, self.limits.frames)?;
-        Ok(thread)
+        start(self.alloc, &self.program, self.limits.frames, term)
     }
 
     /// The main thread begins with a term for which a thread was prepared. Takes no memory.
@@ -277,16 +302,30 @@ impl Machine {
         }
     }
 
-    /// Adds an entry to the log, which changes no thread.
+    /// Makes room in the log for at least 32 entries more.
     ///
     /// # Errors
     ///
-    /// `NoMemory`, with the machine as before.
-    pub fn note(&mut self, entry: Entry) -> Result<(), NoMemory>
-        ensures ok { OnOk result (self.new ≡ with_entry entry self.old) }
-        ensures err { OnErr result (self.new ≡ self.old) }
+    /// `NoMemory`, which does not come where there was room; the machine is then as before.
+    pub fn reserve(&mut self) -> Result<(), NoMemory>
+        ensures room { OnOk result (32 ≤ self.new.log.room) }
+        ensures same { IsSame self.old self.new }
+        ensures enough { 32 ≤ self.old.log.room → result ≡ Ok tt }
     {
-        self.log.push(entry)
+        self.log.reserve(RESERVED)
+    }
+
+    /// Adds an entry to the log that is no act, which changes no thread.
+    ///
+    /// # Errors
+    ///
+    /// `NoMemory`, which does not come where the log has room; the machine is then as before.
+    pub fn note(&mut self, entry: Entry) -> Result<(), NoMemory>
+        ensures ok { OnOk result (HasNoted entry self.old self.new) }
+        ensures err { OnErr result (IsSame self.old self.new) }
+        ensures enough { 0 < self.old.log.room → result ≡ Ok tt }
+    {
+        self.log.push(entry, None)
     }
 
     /// The main thread does its instructions that ask for nothing, up to its next action. The log stays.
@@ -308,7 +347,8 @@ impl Machine {
     fn instruct(&mut self) -> Step
         requires enabled { can_step self.old self.old.main ≡ true }
         requires left { self.old.acts < self.old.limits.acts }
-        ensures { Steps result self.old self.new }
+        ensures steps { Steps result self.old self.new }
+        ensures free { 0 < self.old.log.room → asks_no_memory self.old.main ≡ true → result ≢ Step.NoMemory }
     {
         match self.end() {
             Some(done) => self.finish(done),
@@ -321,7 +361,8 @@ impl Machine {
         requires goes { end_of self.old.main ≡ None }
         requires enabled { can_step self.old self.old.main ≡ true }
         requires left { self.old.acts < self.old.limits.acts }
-        ensures { Steps result self.old self.new }
+        ensures steps { Steps result self.old self.new }
+        ensures free { 0 < self.old.log.room → asks_no_memory self.old.main ≡ true → result ≢ Step.NoMemory }
     {
         answers_are_allowed();
         stores_know_what_lives();
@@ -338,7 +379,8 @@ impl Machine {
                     Ok(answer) => answer,
                     Err(_) => return Step::NoMemory,
                 };
-                let_go(thread.answer(answer));
+                let answered = thread.answer(answer);
+                keep(&mut self.log, answer, answered);
                 self.acts += 1;
                 Step::Acted {
                     thread: MAIN,
@@ -354,7 +396,8 @@ impl Machine {
         requires ends { Finishes self.old }
         requires done { end_of self.old.main ≡ Some done }
         requires left { self.old.acts < self.old.limits.acts }
-        ensures { Steps result self.old self.new }
+        ensures steps { Steps result self.old self.new }
+        ensures free { 0 < self.old.log.room → asks_no_memory self.old.main ≡ true → result ≢ Step.NoMemory }
     {
         ends_are_answered();
         stores_know_what_lives();
@@ -370,9 +413,11 @@ impl Machine {
         }
     }
 
-    /// One instruction of the main thread.
+    /// One instruction of the main thread. Its next action takes no memory where the log has room, unless it is one of those
+    /// to which the store answers with a new object.
     pub fn step(&mut self) -> Step
-        ensures { Steps result self.old self.new }
+        ensures steps { Steps result self.old self.new }
+        ensures free { 0 < self.old.log.room → asks_no_memory self.old.main ≡ true → result ≢ Step.NoMemory }
     {
         if !self.can_step() {
             return Step::Idle;

@@ -1,10 +1,11 @@
 pub mod Parts
 pub mod Readers
 pub mod Notes
+pub mod Histories
 pub mod Overs
 pub mod Turns
 pub mod Steps
 pub mod Entries
 pub mod Answering
 pub mod Acting
-pub mod Sums
+pub mod Lining

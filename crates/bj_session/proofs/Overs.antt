@@ -1,15 +1,21 @@
 -- When all is over.
-use Rattle.std.proofs.Common.{◌≡◌, ◌<◌, ◌+◌, ℕ, length, List, [], ◌∷◌, ◌++◌, Bool, true, false, if◌then◌else◌, None, inl, inr, ap, sym, ◌∙◌, refl, subst, arith, length-append}
+use Rattle.std.proofs.Common.{◌≡◌, ◌<◌, ◌+◌, ℕ, length, List, [], ◌∷◌, ◌++◌, Bool, true, false, if◌then◌else◌, Option, Some, None, inl, inr, ap, sym, ◌∙◌, refl, subst, arith, length-append}
 use Rattle.std.proofs.lemmas.List.{append-nil}
 use Rattle.bj_core.specs.declared.entry.Entry.{Entry}
-use Rattle.bj_core.specs.declared.entry.Entry.TheVariants.{Line}
-use Rattle.bj_history.specs.History.{lines, has_quit}
+use Rattle.bj_core.specs.declared.entry.Entry.TheVariants.{Line, Woke}
+use Rattle.bj_core.specs.declared.entry.Reason.{Reason}
+use Rattle.bj_history.specs.declared.opening.Opening.{Opening}
+use Rattle.bj_history.specs.declared.opening.Wait.{Wait}
+use Rattle.bj_history.specs.declared.opening.Wait.TheVariants.{Silent, Told}
+use Rattle.bj_history.specs.Events.{woke_event}
+use Rattle.bj_history.specs.History.{after, lines, has_quit, has_pause}
 use Rattle.bj_command.specs.Items.{items, items_from, line_then, without_cr, is_lf}
 use Rattle.bj_command.specs.Words.{is_quit}
-use Rattle.bj_session.specs.Reading.{Reader, MayStill, TakesLine}
-use Rattle.bj_session.specs.Desk.{Desk, HasNoted}
-use Rattle.bj_session.specs.Session.{Session, IsSound, IsOver, IsReading, still, ends_by_quit, is_quiet}
+use Rattle.bj_session.specs.Reading.{Reader, MayStill}
+use Rattle.bj_session.specs.Desk.{Desk, HasNoted, is_last}
+use Rattle.bj_session.specs.Session.{Session, IsSound, IsOver, IsReading, still, ends_by_quit, is_quiet, is_woken, is_closed}
 use Rattle.bj_session.specs.declared.sending.Sent.{Sent}
+use Rattle.bj_session.proofs.Histories.{silent_in_pad}
 
 some_if : (b : Bool) (xs ys : List (List ℕ)) → 0 < length xs → 0 < length ys → 0 < length (if b then xs else ys)
 some_if true xs ys h k = h
@@ -44,24 +50,62 @@ not_all_read r log reading goes ended some all =
     let more : 0 < length (items r.rest true) = items_some [] r.rest (omega arith) in
     omega arith
 
--- a line that is taken and not logged is missing
-pub not_all_taken : (line : List ℕ) (r r' : Reader) (log : List Entry) → IsReading r log → has_quit log ≡ false → TakesLine line r r' → r.ended ≡ true → lines log ≡ items r.got true → ⊥
-not_all_taken line r r' log reading goes takes ended all =
-    let shorter = takes.shorter in
-    not_all_read r log reading goes ended (omega arith) all
+pub if_true : (b c : Bool) → (if b then c else false) ≡ true → (b ≡ true) × (c ≡ true)
+if_true true c h = (refl, h)
+if_true false c h = absurd cc
 
-pub old_not_over : (v : Session) → IsSound v → v.ending ≡ None → IsOver v.reader.got v.reader.ended v.desk.log → ⊥
+woken_quiet : (log : List Entry) → is_woken log ≡ true → is_quiet log ≡ true
+woken_quiet [] h = absurd cc
+woken_quiet (Woke reason ∷ front) h = refl
+woken_quiet (e ∷ front) h = absurd cc
+
+-- where the last wait is over, no other has begun
+pub closed_quiet : (pad : Bool) (log : List Entry) → is_closed pad log ≡ true → is_quiet log ≡ true
+closed_quiet true log closed = closed
+closed_quiet false log closed = woken_quiet log (if_true (has_pause log) (is_woken log) closed).1
+
+-- without a pause, all can be over in `pad` alone
+pub closed_in_pad : (pad : Bool) (log : List Entry) → is_closed pad log ≡ true → (pad ≡ false → has_pause log ≡ true → ⊥) → pad ≡ true
+closed_in_pad true log closed unpaused = refl
+closed_in_pad false log closed unpaused = absurd (unpaused refl (if_true (has_pause log) (is_woken log) closed).0)
+
+-- the end of a wait with which all may be over closes the history
+pub closed_woken : (pad : Bool) (wait : Option Wait) (reason : Reason) (log : List Entry) → (wait ≡ Some Silent → has_pause log ≡ true) → is_last pad wait ≡ true → is_closed pad (Woke reason ∷ log) ≡ true
+closed_woken true wait reason log paused last = refl
+closed_woken false None reason log paused last = absurd cc
+closed_woken false (Some Silent) reason log paused last = ap (λ (b : Bool). if b then true else false) (paused refl)
+closed_woken false (Some Told) reason log paused last = absurd cc
+
+-- and no other does
+pub last_closed : (pad : Bool) (wait : Option Wait) (reason : Reason) (log : List Entry) → (pad ≡ false → has_pause log ≡ true → wait ≡ Some Silent) → is_closed pad (Woke reason ∷ log) ≡ true → is_last pad wait ≡ true
+last_closed true wait reason log silent closed = refl
+last_closed false wait reason log silent closed = ap (λ (w : Option Wait). is_last false w) (silent refl (if_true (has_pause log) true closed).0)
+
+silent_by : (o : Opening) (log : List Entry) (reason : Reason) (pad : Bool) → o.pad ≡ pad → (pad ≡ false → has_pause log ≡ true → (after o log).wait ≡ Some Silent) → is_closed pad (Woke reason ∷ log) ≡ true
+    → woke_event (after o log).wait reason ≡ []
+silent_by o log reason true is silent closed = silent_in_pad o log reason is
+silent_by o log reason false is silent closed = ap (λ (w : Option Wait). woke_event w reason) (silent refl (if_true (has_pause log) true closed).0)
+
+-- the end of the last wait prints nothing
+pub silent_closed : (o : Opening) (log : List Entry) (reason : Reason) → (o.pad ≡ false → has_pause log ≡ true → (after o log).wait ≡ Some Silent) → is_closed o.pad (Woke reason ∷ log) ≡ true
+    → woke_event (after o log).wait reason ≡ []
+silent_closed o log reason silent closed = silent_by o log reason o.pad refl silent closed
+
+pub old_not_over : (v : Session) → IsSound v → v.ending ≡ None → IsOver v.desk.opening.pad v.reader.got v.reader.ended v.desk.log → ⊥
 old_not_over v sound none over = cc (sound.only_complete over, none)
 
--- an entry that ends nothing
-pub not_over_noted : (answer : Sent) (entry : Entry) (r : Reader) (d d' : Desk) → HasNoted answer entry d d' → ends_by_quit (entry ∷ d.log) ≡ false → is_quiet (entry ∷ d.log) ≡ false
-    → (IsOver r.got r.ended d.log → ⊥) → IsOver r.got r.ended d'.log → ⊥
-not_over_noted answer entry r d d' n goes loud not_yet over = elim n.log [
-  | inl is ↦ (let o : IsOver r.got r.ended (entry ∷ d.log) = rw is at over in elim o [ inl q ↦ cc (q, goes) | inr all ↦ cc (all.2, loud) ])
-  | inr is ↦ not_yet (rw is at over)
-]
+-- all is over of a desk exactly where it is so of its opening and its log
+pub over_of : (d d' : Desk) (got : List ℕ) (ended : Bool) (log : List Entry) → d'.opening ≡ d.opening → d'.log ≡ log → IsOver d'.opening.pad got ended d'.log → IsOver d.opening.pad got ended log
+over_of d d' got ended log opening grown over =
+    subst (λ (o : Opening). IsOver o.pad got ended log) opening (subst (λ (l : List Entry). IsOver d'.opening.pad got ended l) grown over)
 
--- an entry that prints nothing and was not noted
-pub not_over_silent : (answer : Sent) (entry : Entry) (r : Reader) (d d' : Desk) → HasNoted answer entry d d' → (d'.log ≡ entry ∷ d.log → ⊥)
-    → (IsOver r.got r.ended d.log → ⊥) → IsOver r.got r.ended d'.log → ⊥
-not_over_silent answer entry r d d' n unlogged not_yet over = elim n.log [ inl is ↦ unlogged is | inr is ↦ not_yet (rw is at over) ]
+-- an entry that ends nothing
+pub not_over_entry : (pad : Bool) (got : List ℕ) (ended : Bool) (log : List Entry) → ends_by_quit log ≡ false → is_quiet log ≡ false → IsOver pad got ended log → ⊥
+not_over_entry pad got ended log goes loud over = elim over [ inl q ↦ cc (q, goes) | inr all ↦ cc (closed_quiet pad log all.2, loud) ]
+
+pub not_over_noted : (answer : Sent) (entry : Entry) (r : Reader) (d d' : Desk) → HasNoted answer entry d d' → ends_by_quit (entry ∷ d.log) ≡ false → is_quiet (entry ∷ d.log) ≡ false
+    → (IsOver d.opening.pad r.got r.ended d.log → ⊥) → IsOver d'.opening.pad r.got r.ended d'.log → ⊥
+not_over_noted answer entry r d d' n goes loud not_yet over = elim n.log [
+  | inl is ↦ not_over_entry d.opening.pad r.got r.ended (entry ∷ d.log) goes loud (over_of d d' r.got r.ended (entry ∷ d.log) n.opening is over)
+  | inr is ↦ not_yet (over_of d d' r.got r.ended d.log n.opening is over)
+]

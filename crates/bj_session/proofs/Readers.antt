@@ -1,5 +1,5 @@
 -- What a reader keeps.
-use Rattle.std.proofs.Common.{◌≡◌, ◌≤◌, ◌<◌, ◌+◌, ◌-◌, ◌==◌, ℕ, length, get_or, drop, List, [], ◌∷◌, ◌++◌, Bool, true, false, if◌then◌else◌, ap, sym, ◌∙◌, refl, subst, arith, add_assoc, length-append}
+use Rattle.std.proofs.Common.{◌≡◌, ◌≤◌, ◌<◌, ◌+◌, ◌-◌, ℕ, length, get_or, drop, List, [], ◌∷◌, ◌++◌, Bool, true, false, sym, ◌∙◌, refl, arith, length-append}
 use Rattle.std.proofs.lemmas.List.{append-nil}
 use Rattle.std.proofs.lemmas.Grind.{common_steps}
 use Rattle.bj_command.specs.declared.cut.Lines.{Lines}

@@ -1,25 +1,23 @@
 -- What a step of the session keeps.
 use Rattle.std.proofs.Common.{◌≡◌, ◌≤◌, ◌<◌, ◌+◌, ◌⊎◌, ℕ, length, List, [], ◌∷◌, ◌++◌, Bool, true, false, is_some, if◌then◌else◌, Option, Some, None, inl, inr, ap, sym, ◌∙◌, refl, subst, arith, append_assoc, length-append}
 use Rattle.std.proofs.lemmas.List.{append-nil}
-use Rattle.std.proofs.lemmas.Bool.Decides.{nat_tests}
-use Rattle.std.specs.Prelude.{nat_lt, ◌||◌}
 use Rattle.bj_io.specs.Told.{before-append, behind-append, Rose}
 use Rattle.bj_core.specs.declared.entry.Entry.{Entry}
 use Rattle.bj_core.specs.declared.entry.Entry.TheVariants.{Line}
 use Rattle.bj_history.specs.declared.opening.Opening.{Opening}
-use Rattle.bj_history.specs.History.{after, written, lines, has_quit}
-use Rattle.bj_command.specs.Items.{items, IsPrefixOf, line_then, lines_begun}
+use Rattle.bj_history.specs.History.{after, written, lines, has_quit, has_pause}
+use Rattle.bj_command.specs.Items.{items, IsPrefixOf, line_then}
 use Rattle.bj_command.specs.Words.{is_quit}
 use Rattle.bj_session.specs.Reading.{Reader, HasPolled, TakesLine, MayStill, is_too_long}
 use Rattle.bj_session.specs.Desk.{Desk, HasNoted}
-use Rattle.bj_session.specs.Session.{Session, Start, StandsFor, Goes, Holds, IsSound, IsLive, IsReading, IsCut, still, todo, ending_after, ending_polled}
+use Rattle.bj_session.specs.Session.{Session, Start, StandsFor, Goes, Holds, IsSound, IsLive, IsPadding, IsClosing, IsReading, IsCut, is_closed, still, todo, ending_after, ending_polled}
 use Rattle.bj_session.specs.declared.ends.Ending.{Ending}
 use Rattle.bj_session.specs.declared.ends.Ending.TheVariants as ending
 use Rattle.bj_session.specs.declared.reader.Polled.{Polled}
 use Rattle.bj_session.specs.declared.reader.Polled.TheVariants.{Got, NotYet, End, Failed, NoMemory}
 use Rattle.bj_session.specs.declared.sending.Sent.{Sent}
 use Rattle.bj_session.specs.declared.sending.Sent.TheVariants.{All, Failed as Refused, NoMemory as NoRoom}
-use Rattle.bj_session.proofs.Overs.{ends_has, not_all_read}
+use Rattle.bj_session.proofs.Overs.{ends_has, not_all_read, closed_in_pad}
 
 -- the source, and what was got of it, are the same
 pub record SameSource (old new : Reader) : Type 0 where
@@ -51,6 +49,23 @@ goes_on a b c first later = record {
   stands = λ start h. later.stands start (first.stands start h);
   grows = (later.grows.0 ++ first.grows.0, later.grows.1 ∙ (ap (λ xs. later.grows.0 ++ xs) first.grows.1 ∙ sym (append_assoc later.grows.0 first.grows.0 a.desk.log)));
 }
+
+-- a desk with this opening and this log
+abbrev pub desk_of : Opening → List Entry → Desk → Desk
+desk_of o log d = record { opening = o; log = log; held = d.held; faults = d.faults }
+
+pub same_desk : (d : Desk) (o : Opening) (log : List Entry) → d.opening ≡ o → d.log ≡ log → d ≡ desk_of o log d
+same_desk d o log opening grown = ap (λ (p : Opening). desk_of p d.log d) opening ∙ ap (λ (l : List Entry). desk_of o l d) grown
+
+-- what holds while the session goes on, of the opening and the log
+pub live_of : (r : Reader) (d : Desk) (s : Option Ending) (o : Opening) (log : List Entry) → d.opening ≡ o → d.log ≡ log
+    → IsLive (record { reader = r; desk = desk_of o log d; ending = s }) → IsLive (record { reader = r; desk = d; ending = s })
+live_of r d s o log opening grown live = subst (λ (x : Desk). IsLive (record { reader = r; desk = x; ending = s })) (sym (same_desk d o log opening grown)) live
+
+-- and what there is to do
+pub todo_of : (r : Reader) (d : Desk) (s : Option Ending) (o : Opening) (log : List Entry) (n : ℕ) → d.opening ≡ o → d.log ≡ log
+    → todo (record { reader = r; desk = desk_of o log d; ending = s }) < n → todo (record { reader = r; desk = d; ending = s }) < n
+todo_of r d s o log n opening grown less = subst (λ (x : Desk). todo (record { reader = r; desk = x; ending = s }) < n) (sym (same_desk d o log opening grown)) less
 
 -- what was got grows by a piece, and what may still come is the same
 pub reading_polled : (answer : Polled) (old new : Reader) (log : List Entry) → HasPolled answer old new → old.ended ≡ false → IsReading old log → IsReading new log
@@ -215,28 +230,43 @@ ended_by End was is same going ended = refl
 ended_by Failed was is same going ended = absurd (cc (same (λ h. cc)))
 ended_by NoMemory was is same going ended = absurd (cc (same (λ h. cc)))
 
+-- before the end of the bytes there is no pause in `bench`
+unpaused : (r : Reader) (d : Desk) (s : Option Ending) → IsLive (record { reader = r; desk = d; ending = s }) → r.ended ≡ false → d.opening.pad ≡ false → has_pause d.log ≡ true → ⊥
+unpaused r d s live going bench paused = let c : IsClosing (record { reader = r; desk = d; ending = s }) = live.closing bench paused in cc (c.ended, going)
+
+-- what holds while the session goes on, behind a poll
+live_polled : (answer : Polled) (r r' : Reader) (d : Desk) (s s' : Option Ending) → IsLive (record { reader = r; desk = d; ending = s }) → HasPolled answer r r' → r.ended ≡ false
+    → (answer ≡ End → d.opening.pad ≡ true → 0 < length r'.rest) → IsLive (record { reader = r'; desk = d; ending = s' })
+live_polled answer r r' d s s' live p going more = record {
+  reading = reading_polled answer r r' d.log p going live.reading;
+  goes_on = live.goes_on;
+  due = live.due;
+  turn = live.turn;
+  padding = λ pad.
+      let q : IsPadding (record { reader = r; desk = d; ending = s }) = live.padding pad in
+      record { rested = q.rested; quiet = q.quiet; more = λ ended quiet. more (ended_by answer r.ended r'.ended p.goes_on going ended) pad };
+  closing = λ bench paused. absurd (unpaused r d s live going bench paused);
+}
+
 -- a poll leaves the session sound
 pub sound_polled : (answer : Polled) (r r' : Reader) (d : Desk) (s s' : Option Ending) → IsSound (record { reader = r; desk = d; ending = s }) → s ≡ None → HasPolled answer r r' → r.ended ≡ false → (after d.opening d.log).wait ≡ None
     → (s' ≡ Some ending.TooLong → is_too_long r'.got ≡ true) → (is_too_long r'.got ≡ true → s' ≡ Some ending.TooLong)
-    → (s' ≡ Some ending.Complete → (answer ≡ End) × (r'.rest ≡ [])) → (s' ≡ None → answer ≡ End → 0 < length r'.rest) → (answer ≡ End → (s' ≡ Some ending.Complete) ⊎ (0 < length r'.rest))
+    → (s' ≡ Some ending.Complete → (answer ≡ End) × (r'.rest ≡ []) × (d.opening.pad ≡ true)) → (s' ≡ None → answer ≡ End → d.opening.pad ≡ true → 0 < length r'.rest)
+    → (answer ≡ End → d.opening.pad ≡ true → (s' ≡ Some ending.Complete) ⊎ (0 < length r'.rest))
     → IsSound (record { reader = r'; desk = d; ending = s' })
 sound_polled answer r r' d s s' sound was p going closed long only complete more either =
     let live : IsLive (record { reader = r; desk = d; ending = s }) = sound.live was in
     let reading : IsReading r' d.log = reading_polled answer r r' d.log p going live.reading in
     record {
-      live = λ none. record {
-        reading = reading;
-        goes_on = live.goes_on;
-        paused = live.paused;
-        rested = live.rested;
-        quiet = live.quiet;
-        more = λ ended quiet. more none (ended_by answer r.ended r'.ended p.goes_on going ended);
-      };
+      live = λ none. live_polled answer r r' d s s' live p going (more none);
       prefix = prefix_reading r' d.log reading;
-      complete = λ is. let z : (answer ≡ End) × (r'.rest ≡ []) = complete is in inr (p.ended z.0, all_read r' d.log reading live.goes_on (p.ended z.0) z.1, live.quiet closed);
+      complete = λ is.
+          let z : (answer ≡ End) × (r'.rest ≡ []) × (d.opening.pad ≡ true) = complete is in
+          let q : IsPadding (record { reader = r; desk = d; ending = s }) = live.padding z.2 in
+          inr (p.ended z.0, all_read r' d.log reading live.goes_on (p.ended z.0) z.1, subst (λ (b : Bool). is_closed b d.log ≡ true) (sym z.2) (q.quiet closed));
       only_complete = λ over. elim over [
         | inl q ↦ absurd (cc (ends_has d.log q, live.goes_on))
-        | inr all ↦ elim (either (ended_by answer r.ended r'.ended p.goes_on going all.0)) [
+        | inr all ↦ elim (either (ended_by answer r.ended r'.ended p.goes_on going all.0) (closed_in_pad d.opening.pad d.log all.2 (unpaused r d s live going))) [
           | inl z ↦ z
           | inr some ↦ absurd (not_all_read r' d.log reading live.goes_on all.0 some all.1)
         ]
@@ -251,30 +281,8 @@ got_nothing answer r r' d s sound was p not_got long =
     let same : r'.got ≡ r.got = p.got ∙ (ap (λ xs. r.got ++ xs) (p.none not_got) ∙ append-nil r.got) in
     not_long (record { reader = r; desk = d; ending = s }) sound was (ap is_too_long (sym same) ∙ long)
 
-within_bytes : (bytes lines : ℕ) → (nat_lt 16777216 bytes || nat_lt 100000 lines) ≡ false → bytes ≤ 16777216
-within_bytes bytes lines short = grind (arith, nat_tests)
-
--- a poll that brings bytes leaves less to do
-pub falls_got : (r r' : Reader) (d : Desk) (s s' : Option Ending) → HasPolled Got r r' → is_too_long r'.got ≡ false → todo (record { reader = r'; desk = d; ending = s' }) < todo (record { reader = r; desk = d; ending = s })
-falls_got r r' d s s' p short =
-    let some : 0 < length p.piece = p.some refl in
-    let got : length r'.got ≡ length r.got + length p.piece = ap length p.got ∙ length-append r.got p.piece in
-    let rest : length r'.rest ≡ length r.rest + length p.piece = ap length p.rest ∙ length-append r.rest p.piece in
-    let same : r'.ended ≡ r.ended = p.goes_on (λ h. cc) in
-    let fits : length r'.got ≤ 16777216 = within_bytes (length r'.got) (lines_begun true r'.got) short in
-    rw same (omega arith)
-
--- a poll that finds the end leaves less to do
-pub falls_end : (r r' : Reader) (d : Desk) (s s' : Option Ending) → HasPolled End r r' → r.ended ≡ false → todo (record { reader = r'; desk = d; ending = s' }) < todo (record { reader = r; desk = d; ending = s })
-falls_end r r' d s s' p going =
-    let none : p.piece ≡ [] = p.none (λ h. cc) in
-    let got : r'.got ≡ r.got = p.got ∙ (ap (λ xs. r.got ++ xs) none ∙ append-nil r.got) in
-    let rest : r'.rest ≡ r.rest = p.rest ∙ (ap (λ xs. r.rest ++ xs) none ∙ append-nil r.rest) in
-    let ended : r'.ended ≡ true = p.ended refl in
-    rw (got, rest, ended, going) (omega arith)
-
 -- what is known at the end of a poll
-pub record Polls (answer : Polled) (r r' : Reader) (d : Desk) (s : Option Ending) (is_long is_done : Bool) : Type 0 where
+pub record Polls (answer : Polled) (r r' : Reader) (d : Desk) (s : Option Ending) (is_long is_done is_pad : Bool) : Type 0 where
   pub sound : IsSound (record { reader = r; desk = d; ending = s })
   pub was : s ≡ None
   pub polled : HasPolled answer r r'
@@ -283,68 +291,73 @@ pub record Polls (answer : Polled) (r r' : Reader) (d : Desk) (s : Option Ending
   pub long_is : is_long ≡ is_too_long r'.got
   pub done_is : is_done ≡ true → r'.rest ≡ []
   pub more_is : is_done ≡ false → 0 < length r'.rest
+  pub pad_is : is_pad ≡ d.opening.pad
 
-pub sound_read : (answer : Polled) (r r' : Reader) (d : Desk) (s : Option Ending) (long done : Bool) → Polls answer r r' d s long done
-    → IsSound (record { reader = r'; desk = d; ending = ending_polled answer long done })
-sound_read Got r r' d s true done k = sound_polled Got r r' d s _ k.sound k.was k.polled k.going k.closed (λ h. sym k.long_is) (λ h. refl) (λ h. absurd cc) (λ h g. absurd cc) (λ h. absurd cc)
-sound_read Got r r' d s false done k = sound_polled Got r r' d s _ k.sound k.was k.polled k.going k.closed (λ h. absurd cc) (λ h. absurd (cc (k.long_is, h))) (λ h. absurd cc) (λ h g. absurd cc) (λ h. absurd cc)
-sound_read NotYet r r' d s long done k = sound_polled NotYet r r' d s _ k.sound k.was k.polled k.going k.closed (λ h. absurd cc) (λ h. absurd (got_nothing NotYet r r' d s k.sound k.was k.polled (λ g. cc) h)) (λ h. absurd cc) (λ h g. absurd cc) (λ h. absurd cc)
-sound_read End r r' d s long true k = sound_polled End r r' d s _ k.sound k.was k.polled k.going k.closed (λ h. absurd cc) (λ h. absurd (got_nothing End r r' d s k.sound k.was k.polled (λ g. cc) h)) (λ h. (refl, k.done_is refl)) (λ h g. absurd cc) (λ h. inl refl)
-sound_read End r r' d s long false k = sound_polled End r r' d s _ k.sound k.was k.polled k.going k.closed (λ h. absurd cc) (λ h. absurd (got_nothing End r r' d s k.sound k.was k.polled (λ g. cc) h)) (λ h. absurd cc) (λ h g. k.more_is refl) (λ h. inr (k.more_is refl))
-sound_read Failed r r' d s long done k = sound_polled Failed r r' d s _ k.sound k.was k.polled k.going k.closed (λ h. absurd cc) (λ h. absurd (got_nothing Failed r r' d s k.sound k.was k.polled (λ g. cc) h)) (λ h. absurd cc) (λ h g. absurd cc) (λ h. absurd cc)
-sound_read NoMemory r r' d s long done k = sound_polled NoMemory r r' d s _ k.sound k.was k.polled k.going k.closed (λ h. absurd cc) (λ h. absurd (got_nothing NoMemory r r' d s k.sound k.was k.polled (λ g. cc) h)) (λ h. absurd cc) (λ h g. absurd cc) (λ h. absurd cc)
+-- a poll at which the session does not end, or for another reason
+sound_unended : (answer : Polled) (r r' : Reader) (d : Desk) (s s' : Option Ending) (long done pad : Bool) → Polls answer r r' d s long done pad → (answer ≡ Got → ⊥)
+    → (s' ≡ Some ending.Complete → ⊥) → (s' ≡ Some ending.TooLong → ⊥) → (answer ≡ End → d.opening.pad ≡ true → 0 < length r'.rest) → IsSound (record { reader = r'; desk = d; ending = s' })
+sound_unended answer r r' d s s' long done pad k not_got goes short more =
+    sound_polled answer r r' d s s' k.sound k.was k.polled k.going k.closed (λ h. absurd (short h)) (λ h. absurd (got_nothing answer r r' d s k.sound k.was k.polled not_got h))
+    (λ h. absurd (goes h)) (λ none. more) (λ h g. inr (more h g))
 
-failed_polled : (answer : Polled) (long done : Bool) → ending_polled answer long done ≡ Some ending.SourceFault → answer ≡ Failed
-failed_polled Got true done is = absurd cc
-failed_polled Got false done is = absurd cc
-failed_polled NotYet long done is = absurd cc
-failed_polled End long true is = absurd cc
-failed_polled End long false is = absurd cc
-failed_polled Failed long done is = refl
-failed_polled NoMemory long done is = absurd cc
+pub sound_read : (answer : Polled) (r r' : Reader) (d : Desk) (s : Option Ending) (long done pad : Bool) → Polls answer r r' d s long done pad
+    → IsSound (record { reader = r'; desk = d; ending = ending_polled answer long done pad })
+sound_read Got r r' d s true done pad k = sound_polled Got r r' d s _ k.sound k.was k.polled k.going k.closed (λ h. sym k.long_is) (λ h. refl) (λ h. absurd cc) (λ h g. absurd cc) (λ h. absurd cc)
+sound_read Got r r' d s false done pad k = sound_polled Got r r' d s _ k.sound k.was k.polled k.going k.closed (λ h. absurd cc) (λ h. absurd (cc (k.long_is, h))) (λ h. absurd cc) (λ h g. absurd cc) (λ h. absurd cc)
+sound_read NotYet r r' d s long done pad k = sound_unended NotYet r r' d s _ long done pad k (λ g. cc) (λ h. cc) (λ h. cc) (λ h. absurd cc)
+sound_read End r r' d s long true true k =
+    sound_polled End r r' d s _ k.sound k.was k.polled k.going k.closed (λ h. absurd cc) (λ h. absurd (got_nothing End r r' d s k.sound k.was k.polled (λ g. cc) h))
+    (λ h. (refl, k.done_is refl, sym k.pad_is)) (λ h g. absurd cc) (λ h g. inl refl)
+sound_read End r r' d s long true false k = sound_unended End r r' d s _ long true false k (λ g. cc) (λ h. cc) (λ h. cc) (λ h g. absurd (cc (k.pad_is, g)))
+sound_read End r r' d s long false true k = sound_unended End r r' d s _ long false true k (λ g. cc) (λ h. cc) (λ h. cc) (λ h g. k.more_is refl)
+sound_read End r r' d s long false false k = sound_unended End r r' d s _ long false false k (λ g. cc) (λ h. cc) (λ h. cc) (λ h g. k.more_is refl)
+sound_read Failed r r' d s long done pad k = sound_unended Failed r r' d s _ long done pad k (λ g. cc) (λ h. cc) (λ h. cc) (λ h. absurd cc)
+sound_read NoMemory r r' d s long done pad k = sound_unended NoMemory r r' d s _ long done pad k (λ g. cc) (λ h. cc) (λ h. cc) (λ h. absurd cc)
 
-unsent_polled : (answer : Polled) (long done : Bool) → ending_polled answer long done ≡ Some ending.SinkFault → ⊥
-unsent_polled Got true done is = cc
-unsent_polled Got false done is = cc
-unsent_polled NotYet long done is = cc
-unsent_polled End long true is = cc
-unsent_polled End long false is = cc
-unsent_polled Failed long done is = cc
-unsent_polled NoMemory long done is = cc
+failed_polled : (answer : Polled) (long done pad : Bool) → ending_polled answer long done pad ≡ Some ending.SourceFault → answer ≡ Failed
+failed_polled Got true done pad is = absurd cc
+failed_polled Got false done pad is = absurd cc
+failed_polled NotYet long done pad is = absurd cc
+failed_polled End long true true is = absurd cc
+failed_polled End long true false is = absurd cc
+failed_polled End long false pad is = absurd cc
+failed_polled Failed long done pad is = refl
+failed_polled NoMemory long done pad is = absurd cc
 
-waited_polled : (answer : Polled) (long done : Bool) → ending_polled answer long done ≡ Some ending.NotYet → answer ≡ NotYet
-waited_polled Got true done is = absurd cc
-waited_polled Got false done is = absurd cc
-waited_polled NotYet long done is = refl
-waited_polled End long true is = absurd cc
-waited_polled End long false is = absurd cc
-waited_polled Failed long done is = absurd cc
-waited_polled NoMemory long done is = absurd cc
+unsent_polled : (answer : Polled) (long done pad : Bool) → ending_polled answer long done pad ≡ Some ending.SinkFault → ⊥
+unsent_polled Got true done pad is = cc
+unsent_polled Got false done pad is = cc
+unsent_polled NotYet long done pad is = cc
+unsent_polled End long true true is = cc
+unsent_polled End long true false is = cc
+unsent_polled End long false pad is = cc
+unsent_polled Failed long done pad is = cc
+unsent_polled NoMemory long done pad is = cc
 
-got_polled : (answer : Polled) (long done ended : Bool) → (answer ≡ End → ended ≡ true) → ending_polled answer long done ≡ None → ended ≡ false → answer ≡ Got
-got_polled Got long done ended at_end is open_ = refl
-got_polled NotYet long done ended at_end is open_ = absurd cc
-got_polled End long done ended at_end is open_ = absurd (cc (at_end refl, open_))
-got_polled Failed long done ended at_end is open_ = absurd cc
-got_polled NoMemory long done ended at_end is open_ = absurd cc
+waited_polled : (answer : Polled) (long done pad : Bool) → ending_polled answer long done pad ≡ Some ending.NotYet → answer ≡ NotYet
+waited_polled Got true done pad is = absurd cc
+waited_polled Got false done pad is = absurd cc
+waited_polled NotYet long done pad is = refl
+waited_polled End long true true is = absurd cc
+waited_polled End long true false is = absurd cc
+waited_polled End long false pad is = absurd cc
+waited_polled Failed long done pad is = absurd cc
+waited_polled NoMemory long done pad is = absurd cc
 
-pub goes_read : (answer : Polled) (r r' : Reader) (d : Desk) (s : Option Ending) (long done : Bool) → Polls answer r r' d s long done
-    → Goes (record { reader = r; desk = d; ending = s }) (record { reader = r'; desk = d; ending = ending_polled answer long done })
-goes_read answer r r' d s long done k = record {
-  stands = λ start h. stands_polled answer _ (record { reader = r'; desk = d; ending = ending_polled answer long done }) start k.was k.going k.polled refl
-      (failed_polled answer long done) (unsent_polled answer long done) (waited_polled answer long done) (got_polled answer long done r'.ended k.polled.ended) h;
+got_polled : (answer : Polled) (long done pad ended : Bool) → (answer ≡ End → ended ≡ true) → ending_polled answer long done pad ≡ None → ended ≡ false → answer ≡ Got
+got_polled Got long done pad ended at_end is open_ = refl
+got_polled NotYet long done pad ended at_end is open_ = absurd cc
+got_polled End long done pad ended at_end is open_ = absurd (cc (at_end refl, open_))
+got_polled Failed long done pad ended at_end is open_ = absurd cc
+got_polled NoMemory long done pad ended at_end is open_ = absurd cc
+
+pub goes_read : (answer : Polled) (r r' : Reader) (d : Desk) (s : Option Ending) (long done pad : Bool) → Polls answer r r' d s long done pad
+    → Goes (record { reader = r; desk = d; ending = s }) (record { reader = r'; desk = d; ending = ending_polled answer long done pad })
+goes_read answer r r' d s long done pad k = record {
+  stands = λ start h. stands_polled answer _ (record { reader = r'; desk = d; ending = ending_polled answer long done pad }) start k.was k.going k.polled refl
+      (failed_polled answer long done pad) (unsent_polled answer long done pad) (waited_polled answer long done pad) (got_polled answer long done pad r'.ended k.polled.ended) h;
   grows = ([], refl);
 }
-
-pub falls_read : (answer : Polled) (r r' : Reader) (d : Desk) (s : Option Ending) (long done : Bool) → Polls answer r r' d s long done → ending_polled answer long done ≡ None
-    → todo (record { reader = r'; desk = d; ending = ending_polled answer long done }) < todo (record { reader = r; desk = d; ending = s })
-falls_read Got r r' d s true done k none = absurd cc
-falls_read Got r r' d s false done k none = falls_got r r' d s None k.polled (sym k.long_is)
-falls_read NotYet r r' d s long done k none = absurd cc
-falls_read End r r' d s long true k none = absurd cc
-falls_read End r r' d s long false k none = falls_end r r' d s None k.polled k.going
-falls_read Failed r r' d s long done k none = absurd cc
-falls_read NoMemory r r' d s long done k none = absurd cc
 
 pub none_by : (o : Option Ending) (b : Bool) → b ≡ is_some o → b ≡ false → o ≡ None
 none_by None b is off = refl

@@ -1,6 +1,6 @@
 pub mod Sending
 pub mod Reading
-pub mod Asking
 pub mod Endings
+pub mod Naming
 pub mod Desk
 pub mod Session

@@ -1,19 +1,21 @@
-ghost use Rattle.std.specs.Prelude.{◌≡◌, ◌≤◌, ◌<◌, IfOk, IfErr, true, is_some};
+ghost use Rattle.std.specs.Prelude.{◌≡◌, ◌≤◌, ◌<◌, IfOk, IfErr, true, false, is_some};
 ghost use Rattle.bj_core.specs.declared.entry.Entry.TheVariants as entry;
-ghost use Rattle.bj_history.specs.Events.{written_line};
-ghost use Rattle.bj_history.specs.History.{after, loaded, setting, Legal, May};
+ghost use Rattle.bj_command.specs.Words.{form_in, takes_memory};
+ghost use Rattle.bj_history.specs.History.{after, actions, loaded, setting, Fits, Legal, has_quit};
 ghost use Rattle.bj_machine.specs.Shown.{IsFresh};
 ghost use Rattle.bj_machine.specs.World.{is_enabled};
-ghost use Rattle.bj_session.specs.Desk.{fresh_desk, world_of, HasNoted, HasLined, HasActed, MayTake, IsDecided, end_event};
+ghost use Rattle.bj_session.specs.Desk.{fresh_desk, world_of, is_last, HasNoted, HasLined, HasActed, HasFollowed, MayTake, IsDecided};
 
-use crate::asking::{ask, begin, let_go, reply_text};
+use crate::entering::enter;
+use crate::naming::{bind_end, release, unbind};
 use crate::{Sent, put_all};
-use bj_builtin::{builtin, builtin_is_a_program};
-use bj_core::{Bytes, Done, Entry, Limits, NoMemory, Reason, Seq, Val};
+use bj_builtin::{builtin, no_field_is_void};
+use bj_core::{Bytes, Entry, Limits, Name, NoMemory, Reason, Seq};
 use bj_gen::generate;
 use bj_history::{Opening, Wait};
 use bj_io::Sink;
 use bj_machine::{Log, Machine, Step};
+use bj_reply::{Asked, Bench, ask, end_text, woke_text, written_text};
 use std::alloc::Global;
 use std::marker::Model;
 
@@ -28,12 +30,15 @@ pub enum Decision {
     NoMemory,
 }
 
-/// The machine, and the sink to which its history is written.
+/// The machine with the names on the bench, and the sink to which its history is written.
 #[derive(Drop)]
 pub struct Desk<K: Sink> {
     opening: Opening,
     machine: Machine,
     wait: Option<Wait>,
+    /// The name that the main thread's term binds.
+    binds: Option<Name>,
+    bench: Bench,
     sink: K,
     alloc: Global,
 }
@@ -45,34 +50,13 @@ impl<K: Sink> Model for Desk<K> {
 
     ghost use Rattle.bj_session.specs.Desk.{IsKept};
 
-    ghost view = { λ d. record { opening = d.opening; log = d.machine.log; held = K.held d.sink; faults = K.faults d.sink } };
+    ghost view = { λ d. record { opening = d.opening; log = d.machine.log.entries; held = K.held d.sink; faults = K.faults d.sink } };
 
-    ghost invariant = { λ d. IsKept d.opening d.machine d.wait };
+    ghost invariant = { λ d. IsKept d.opening d.machine d.wait d.binds d.bench };
 }
 
-/// A reply as it is written.
-fn written_text(alloc: Global, reply: &Bytes) -> Result<Bytes, NoMemory>
-    ensures { IfOk result (λ b. b ≡ written_line reply.now) }
-{
-    let mut text = Seq::from_slice(alloc, reply.as_slice())?;
-    if !text.is_empty() {
-        text.extend(b"\n".as_slice())?;
-    }
-    Ok(text)
-}
-
-/// The event of the end of a term, if it has ended.
-fn event_text(alloc: Global, end: Option<Done>) -> Result<Bytes, NoMemory>
-    ensures { IfOk result (λ b. b ≡ end_event end) }
-{
-    match end {
-        Some(Done::Value(Val::Int(value))) => {
-            let text = format!(in alloc; "! {value} (int)\n")?;
-            Seq::from_slice(alloc, text.as_bytes())
-        }
-        _ => Ok(Seq::new(alloc)),
-    }
-}
+/// Lets go what a line asked. Its drop stands here alone, so that no caller's proof goes through it.
+fn let_go(_asked: Asked) {}
 
 /// A machine over the program that is loaded at the opening.
 ///
@@ -104,11 +88,27 @@ impl<K: Sink> Desk<K> {
                 opening,
                 machine,
                 wait: None,
+                binds: None,
+                bench: Bench::new(alloc),
                 sink,
                 alloc,
             }),
             Err(_) => Err(sink),
         }
+    }
+
+    /// Whether the command is `pad`.
+    pub fn is_pad(&self) -> bool
+        ensures { result ≡ self.now.opening.pad }
+    {
+        self.opening.pad
+    }
+
+    /// Whether with the end of the open wait all may be over.
+    pub fn is_last(&self) -> bool
+        ensures { result ≡ is_last self.now.opening.pad (after self.now.opening self.now.log).wait }
+    {
+        self.opening.pad || matches!(self.wait, Some(Wait::Silent))
     }
 
     /// Whether a wait is open.
@@ -138,41 +138,91 @@ impl<K: Sink> Desk<K> {
         Decision::Act
     }
 
-    /// A line, with its reply.
+    /// A line, with its reply: what needs memory comes first, so that a line without memory changes nothing.
     pub fn line(&mut self, bytes: Bytes) -> Sent
         requires { MayTake self.old.opening self.old.log }
         ensures { HasLined result bytes self.old self.new }
     {
-        builtin_is_a_program();
-        let ready = ask(self.alloc, &self.machine, bytes.as_slice());
-        let reply = match reply_text(self.alloc, &ready) {
-            Ok(reply) => reply,
-            Err(_) => {
-                let_go(ready);
-                return Sent::NoMemory;
-            }
+        let pad = self.opening.pad;
+        let asked = match ask(
+            self.alloc,
+            &self.machine,
+            &self.bench,
+            pad,
+            bytes.as_slice(),
+        ) {
+            Ok(asked) => asked,
+            Err(_) => return self.refuse(bytes),
         };
-        let text = match written_text(self.alloc, &reply) {
+        let text = match written_text(self.alloc, &asked.reply) {
             Ok(text) => text,
             Err(_) => {
-                let_go(ready);
+                let_go(asked);
                 return Sent::NoMemory;
             }
         };
-        match self.machine.note(Entry::Line { bytes, reply }) {
+        match enter(
+            &mut self.machine,
+            &mut self.binds,
+            &mut self.wait,
+            bytes,
+            asked,
+        ) {
             Ok(()) => {}
-            Err(_) => {
-                let_go(ready);
-                return Sent::NoMemory;
-            }
+            Err(_) => return Sent::NoMemory,
         }
-        begin(&mut self.machine, ready);
         put_all(&mut self.sink, text.as_slice())
     }
 
-    /// The silent wait that follows a line.
+    /// A line for which memory was wanting: nothing changes but the log.
+    fn refuse(&mut self, bytes: Bytes) -> Sent
+        requires may { MayTake self.old.opening self.old.log }
+        requires memory { takes_memory (form_in self.old.opening.pad bytes) ≡ true }
+        ensures { HasLined result bytes self.old self.new }
+    {
+        let reply = match Seq::from_slice(self.alloc, b"= no memory".as_slice()) {
+            Ok(reply) => reply,
+            Err(_) => return Sent::NoMemory,
+        };
+        let text = match written_text(self.alloc, &reply) {
+            Ok(text) => text,
+            Err(_) => return Sent::NoMemory,
+        };
+        match self.machine.note(Entry::Line { bytes, reply }) {
+            Ok(()) => {}
+            Err(_) => return Sent::NoMemory,
+        }
+        put_all(&mut self.sink, text.as_slice())
+    }
+
+    /// What follows a line: in `pad` the silent wait, in `bench` the first act, where one can be done.
+    pub fn follow(&mut self) -> Sent
+        requires goes_on { has_quit self.old.log ≡ false }
+        requires due { self.old.opening.pad ≡ true → Fits self.old.opening self.old.log entry.Pause }
+        ensures { HasFollowed self.old.opening.pad result self.old self.new }
+    {
+        if self.opening.pad {
+            self.pause()
+        } else {
+            self.turn()
+        }
+    }
+
+    /// The first act behind a line, where one can be done.
+    fn turn(&mut self) -> Sent
+        requires goes_on { has_quit self.old.log ≡ false }
+        ensures { HasFollowed false result self.old self.new }
+    {
+        match self.decide() {
+            Decision::Act => self.act(),
+            Decision::Wake(_) => Sent::All,
+            Decision::NoMemory => Sent::NoMemory,
+        }
+    }
+
+    /// The silent wait: in `pad` behind a line, in `bench` at the end of the input.
     pub fn pause(&mut self) -> Sent
-        requires { May self.old.opening self.old.log entry.Pause }
+        requires { Fits self.old.opening self.old.log entry.Pause }
         ensures { HasNoted result entry.Pause self.old self.new }
     {
         match self.machine.note(Entry::Pause) {
@@ -183,21 +233,26 @@ impl<K: Sink> Desk<K> {
         Sent::All
     }
 
-    /// The end of the open wait.
+    /// The end of the open wait, with its event.
     pub fn wake(&mut self, reason: Reason) -> Sent
-        requires { May self.old.opening self.old.log (entry.Woke reason) }
+        requires { Fits self.old.opening self.old.log (entry.Woke reason) }
         ensures { HasNoted result (entry.Woke reason) self.old self.new }
     {
+        let text = match woke_text(self.alloc, self.wait, reason) {
+            Ok(text) => text,
+            Err(_) => return Sent::NoMemory,
+        };
         match self.machine.note(Entry::Woke { reason }) {
             Ok(()) => {}
             Err(_) => return Sent::NoMemory,
         }
         self.wait = None;
-        Sent::All
+        put_all(&mut self.sink, text.as_slice())
     }
 
-    /// The main thread's next action.
+    /// The main thread's next action: where it ends a term that binds a name, the name is bound.
     pub fn act(&mut self) -> Sent
+        requires goes_on { has_quit self.old.log ≡ false }
         requires enabled { is_enabled (setting self.old.opening) (world_of self.old) ≡ true }
         requires left { (world_of self.old).acts < self.old.opening.limits.acts }
         ensures { HasActed result self.old self.new }
@@ -206,25 +261,34 @@ impl<K: Sink> Desk<K> {
             Ok(()) => {}
             Err(_) => return Sent::NoMemory,
         }
-        let text = match event_text(self.alloc, self.machine.end()) {
+        let end = self.machine.end();
+        let text = match end_text(self.alloc, self.machine.program(), &self.binds, end) {
             Ok(text) => text,
             Err(_) => return Sent::NoMemory,
         };
+        let bound = match bind_end(self.alloc, &mut self.bench, &self.binds, end) {
+            Ok(bound) => bound,
+            Err(_) => return Sent::NoMemory,
+        };
         match self.machine.step() {
-            Step::Acted {
-                thread: _,
-                place: _,
-            } => put_all(&mut self.sink, text.as_slice()),
-            Step::Moved { thread: _ } => unreachable!(),
+            Step::Acted { .. } => {
+                release(&mut self.binds, end);
+                put_all(&mut self.sink, text.as_slice())
+            }
+            Step::Moved { .. } => unreachable!(),
             Step::Idle => unreachable!(),
-            Step::Spent { count: _ } => unreachable!(),
-            Step::NoMemory => Sent::NoMemory,
+            Step::Spent { .. } => unreachable!(),
+            Step::NoMemory => {
+                unbind(&mut self.bench, bound);
+                Sent::NoMemory
+            }
         }
     }
 
     /// The log and the sink, where the desk is done with.
     pub fn into_parts(self) -> (Log, K)
-        ensures log { result.0 ≡ self.log }
+        ensures log { result.0.entries ≡ self.log }
+        ensures actions { result.0.actions ≡ actions self.opening self.log }
         ensures legal { Legal self.opening self.log }
         ensures held { K.held result.1 ≡ self.held }
         ensures faults { K.faults result.1 ≡ self.faults }
@@ -233,6 +297,8 @@ impl<K: Sink> Desk<K> {
             opening: _,
             machine,
             wait: _,
+            binds: _,
+            bench: _,
             sink,
             alloc: _,
         } = self;

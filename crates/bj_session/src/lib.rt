@@ -1,9 +1,10 @@
 //! The session: what is read, what is done, and what is written.
 #![tactic(auto)]
 
-mod asking;
 mod desk;
 mod ends;
+mod entering;
+mod naming;
 mod reader;
 mod sending;
 mod session;

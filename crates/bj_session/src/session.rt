@@ -1,6 +1,6 @@
 ghost use Rattle.std.specs.Prelude.{◌≡◌, ◌<◌, ◌≤◌, true, false, Some, None, IfOk, IfErr, IsSome, []};
 ghost use Rattle.bj_command.specs.Words.{is_quit};
-ghost use Rattle.bj_history.specs.History.{after, setting, Legal, Wakes};
+ghost use Rattle.bj_history.specs.History.{after, actions, setting, Legal, Wakes};
 ghost use Rattle.bj_machine.specs.World.{is_enabled};
 ghost use Rattle.bj_session.specs.Desk.{world_of};
 ghost use Rattle.bj_session.specs.Session.{Goes, IsSound, todo, ending_after, ending_polled, ending_lined, ending_woken, ends_at, fresh_session, HasStatus};
@@ -46,15 +46,15 @@ fn ending_after(sent: Sent) -> Option<Ending>
     }
 }
 
-/// How a poll leaves it, where the bytes are too many, or are all taken.
-fn ending_polled(polled: Polled, long: bool, done: bool) -> Option<Ending>
-    ensures { result ≡ ending_polled polled long done }
+/// How a poll leaves it, where the bytes are too many, or are all taken in `pad`.
+fn ending_polled(polled: Polled, long: bool, done: bool, pad: bool) -> Option<Ending>
+    ensures { result ≡ ending_polled polled long done pad }
 {
     match polled {
         Polled::Got if long => Some(Ending::TooLong),
         Polled::Got => None,
         Polled::NotYet => Some(Ending::NotYet),
-        Polled::End if done => Some(Ending::Complete),
+        Polled::End if done && pad => Some(Ending::Complete),
         Polled::End => None,
         Polled::Failed => Some(Ending::SourceFault),
         Polled::NoMemory => Some(Ending::NoMemory),
@@ -83,12 +83,12 @@ fn ends_at(sent: Sent, quit: bool) -> bool
     }
 }
 
-/// How the end of a wait leaves it, where all may be over.
-fn ending_woken(sent: Sent, over: bool) -> Option<Ending>
-    ensures { result ≡ ending_woken sent over }
+/// How the end of a wait leaves it, which may be the last one, where all may be read.
+fn ending_woken(sent: Sent, last: bool, over: bool) -> Option<Ending>
+    ensures { result ≡ ending_woken sent last over }
 {
     match sent {
-        Sent::All if over => Some(Ending::Complete),
+        Sent::All if last && over => Some(Ending::Complete),
         Sent::All => None,
         Sent::Failed => Some(Ending::SinkFault),
         Sent::NoMemory => Some(Ending::NoMemory),
@@ -109,7 +109,7 @@ impl<S: Source, K: Sink, C: Clock> Session<S, K, C> {
         requires open { S.ended ends.source ≡ false }
         requires frames { 2 ≤ opening.limits.frames }
         ensures ok { IfOk result (λ s. s ≡ fresh_session opening (S.left ends.source) (S.faults ends.source) (S.waits ends.source) (S.polls ends.source) (K.held ends.sink) (K.faults ends.sink)) }
-        ensures err { IfErr result (λ f. (f.status ≡ 5) × (f.log ≡ []) × (f.ends ≡ ends)) }
+        ensures err { IfErr result (λ f. (f.status ≡ 5) × (f.log.entries ≡ []) × (f.log.actions ≡ []) × (f.ends ≡ ends)) }
     {
         let Ends {
             source,
@@ -147,7 +147,8 @@ impl<S: Source, K: Sink, C: Clock> Session<S, K, C> {
         let polled = self.reader.poll();
         let long = self.reader.is_too_long();
         let done = self.reader.is_done();
-        self.ending = ending_polled(polled, long, done);
+        let pad = self.desk.is_pad();
+        self.ending = ending_polled(polled, long, done, pad);
     }
 
     /// The main thread's next action.
@@ -170,9 +171,10 @@ impl<S: Source, K: Sink, C: Clock> Session<S, K, C> {
         ensures goes { Goes self.old self.new }
         ensures falls { self.new.ending ≡ None → todo self.new < todo self.old }
     {
+        let last = self.desk.is_last();
         let sent = self.desk.wake(reason);
         let over = self.reader.is_over();
-        self.ending = ending_woken(sent, over);
+        self.ending = ending_woken(sent, last, over);
     }
 
     /// Memory was wanting.
@@ -190,7 +192,7 @@ impl<S: Source, K: Sink, C: Clock> Session<S, K, C> {
         requires closed { (after self.old.desk.opening self.old.desk.log).wait ≡ None }
         ensures goes { Goes self.old self.new }
         ensures took { result ≡ true → self.new.ending ≡ None → todo self.new < todo self.old }
-        ensures nothing { result ≡ false → (self.new ≡ self.old) × (self.old.reader.ended ≡ false) }
+        ensures nothing { result ≡ false → (self.new ≡ self.old) × (self.old.reader.ended ≡ true → (self.old.desk.opening.pad ≡ false) × (self.old.reader.rest ≡ [])) }
     {
         let bytes = match self.reader.take_line() {
             Taken::Line(bytes) => bytes,
@@ -206,9 +208,23 @@ impl<S: Source, K: Sink, C: Clock> Session<S, K, C> {
             self.ending = ending_lined(sent);
             return true;
         }
+        let followed = self.desk.follow();
+        self.ending = ending_after(followed);
+        true
+    }
+
+    /// The silent wait at the end of the input of `bench`.
+    fn close(&mut self)
+        requires live { self.old.ending ≡ None }
+        requires closed { (after self.old.desk.opening self.old.desk.log).wait ≡ None }
+        requires bench { self.old.desk.opening.pad ≡ false }
+        requires ended { self.old.reader.ended ≡ true }
+        requires done { self.old.reader.rest ≡ [] }
+        ensures goes { Goes self.old self.new }
+        ensures falls { self.new.ending ≡ None → todo self.new < todo self.old }
+    {
         let paused = self.desk.pause();
         self.ending = ending_after(paused);
-        true
     }
 
     /// What the open wait comes to: it ends, or the main thread acts.
@@ -242,7 +258,8 @@ impl<S: Source, K: Sink, C: Clock> Session<S, K, C> {
         }
     }
 
-    /// The open wait goes on; or the next line is answered, for which the source is polled where none is buffered.
+    /// The open wait goes on; or the next line is answered, for which the source is polled where none is buffered; or, behind
+    /// the last line of `bench`, the silent wait opens.
     fn step(&mut self)
         requires live { self.old.ending ≡ None }
         ensures goes { Goes self.old self.new }
@@ -253,6 +270,10 @@ impl<S: Source, K: Sink, C: Clock> Session<S, K, C> {
             return;
         }
         if self.answer() {
+            return;
+        }
+        if self.reader.has_ended() {
+            self.close();
             return;
         }
         self.read();
@@ -284,7 +305,8 @@ impl<S: Source, K: Sink, C: Clock> Session<S, K, C> {
     pub fn finish(self) -> Finish<S, K, C>
         requires { IsSome self.ending }
         ensures status { HasStatus self.ending result.status }
-        ensures log { result.log ≡ self.desk.log }
+        ensures log { result.log.entries ≡ self.desk.log }
+        ensures actions { result.log.actions ≡ actions self.desk.opening self.desk.log }
         ensures legal { Legal self.desk.opening self.desk.log }
         ensures sound { IsSound self }
         ensures left { S.left result.ends.source ≡ self.reader.left }

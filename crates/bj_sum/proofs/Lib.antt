@@ -4,3 +4,5 @@ pub mod Sound
 pub mod Complete
 pub mod LexSound
 pub mod Wholes
+pub mod CellTurns
+pub mod CellLaws

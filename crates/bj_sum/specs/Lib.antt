@@ -3,3 +3,4 @@ pub mod Lexing
 pub mod Grammar
 pub mod Reading
 pub mod Sums
+pub mod Cells

@@ -4,7 +4,7 @@ use std::alloc::{AllocError, Global};
 use std::test::Fail;
 
 /// Each operator with the column at which its node stands, and its operands in brackets.
-fn shown(alloc: Global, expr: &Expr) -> Result<String, AllocError> {
+pub fn shown(alloc: Global, expr: &Expr) -> Result<String, AllocError> {
     match expr {
         Expr::Const { at, value } => match value {
             Const::Int(value) => format!(in alloc; "{value}@{}", at.column),

@@ -1,17 +1,10 @@
 -- The terms that tests run on a machine are typed.
-use Rattle.std.proofs.Common.{◌≡◌, ℕ, ℤ, List, [], ◌∷◌, ◌++◌, Some, Result, Ok, Err, refl, ap, ◌∙◌}
+use Rattle.std.proofs.Common.{◌≡◌, ℤ, List, [], ◌∷◌, ◌++◌, Result, Ok, Err, ap, ◌∙◌}
 use Rattle.std.specs.Prelude.{IfOk}
 use Rattle.bj_core.specs.declared.types.Const.TheVariants as k
 use Rattle.bj_core.specs.declared.types.Span.{Span}
-use Rattle.bj_core.specs.declared.types.Ty.TheVariants as ty
-use Rattle.bj_core.specs.declared.types.Val.TheVariants as val
-use Rattle.bj_core.specs.declared.frame.Term.{Term}
 use Rattle.bj_core.specs.declared.tree.Expr.{Expr}
 use Rattle.bj_core.specs.declared.tree.Expr.TheVariants as e
-use Rattle.bj_core.specs.declared.tree.Stmt.TheVariants.{Return}
-use Rattle.bj_eval.specs.Terms.{StandsFor}
-use Rattle.bj_eval.specs.Typed.{IsTyped, int_constant}
-use Rattle.bj_builtin.specs.Builtin.{builtin}
 
 abbrev pub at : Span
 at = record { line = 1; column = 1 }

@@ -4,13 +4,14 @@ use Rattle.std.proofs.lemmas.List.{append-nil}
 use Rattle.bj_io.specs.Told.{before-nil, behind-nil}
 use Rattle.bj_core.specs.declared.entry.Entry.{Entry}
 use Rattle.bj_history.specs.declared.opening.Opening.{Opening}
-use Rattle.bj_history.specs.History.{Legal, after, lines, written, has_quit}
+use Rattle.bj_machine.specs.Kept.{LogValue}
+use Rattle.bj_history.specs.History.{Legal, actions, after, lines, written}
 use Rattle.bj_command.specs.Items.{items, IsPrefixOf}
 use Rattle.bj_session.specs.Endings.{status_of}
 use Rattle.bj_session.specs.Session.{Session, Start, StandsFor, IsSound, IsOver, Holds, HasStatus, IsCut as IsCutOff, fresh_session}
 use Rattle.bj_session.specs.declared.ends.Ending.{Ending}
 use Rattle.bj_session.specs.declared.ends.Ending.TheVariants as e
-use Rattle.objectbench.specs.Top.{Ran, IsCut, IsStatus, opening}
+use Rattle.objectbench.specs.Top.{Ran, IsCut, IsStatus}
 
 abbrev pub start_of : Opening → Option (List ℕ) → ℕ → ℕ → ℕ → Option (List ℕ) → ℕ → Start
 start_of o left faults waits polls held sink_faults = record { opening = o; left = left; held = held; source_faults = faults; waits = waits; polls = polls; sink_faults = sink_faults }
@@ -123,44 +124,51 @@ not_two o status has is = let x = ending_by o status has in two x.0 (sym x.2 ∙
     two e.NotYet h = cc
 
 -- a session that is over is a run from its start
-pub ran : (start : Start) (v : Session) (left' : Option (List ℕ)) (polls' : ℕ) (ended : Bool) (held' : Option (List ℕ)) (status : ℕ) (log : List Entry)
-    → start.opening ≡ opening → StandsFor start v → IsSound v → Legal v.desk.opening v.desk.log → (after v.desk.opening v.desk.log).world.acts ≤ v.desk.opening.limits.acts
-    → HasStatus v.ending status → log ≡ v.desk.log → left' ≡ v.reader.left → polls' ≡ v.reader.polls → ended ≡ v.reader.ended → held' ≡ v.desk.held
-    → Ran start.left left' start.polls polls' ended start.held held' status log
-ran start v left' polls' ended held' status log opens stands sound legal acts has log_is left_is polls_is ended_is held_is =
+pub ran : (o : Opening) (start : Start) (v : Session) (left' : Option (List ℕ)) (polls' : ℕ) (ended : Bool) (held' : Option (List ℕ)) (status : ℕ) (log : LogValue)
+    → start.opening ≡ o → StandsFor start v → IsSound v → Legal v.desk.opening v.desk.log → (after v.desk.opening v.desk.log).world.acts ≤ v.desk.opening.limits.acts
+    → HasStatus v.ending status → log.entries ≡ v.desk.log → log.actions ≡ actions v.desk.opening v.desk.log
+    → left' ≡ v.reader.left → polls' ≡ v.reader.polls → ended ≡ v.reader.ended → held' ≡ v.desk.held
+    → Ran o start.left left' start.polls polls' ended start.held held' status log
+ran o start v left' polls' ended held' status log opens stands sound legal acts has log_is actions_are left_is polls_is ended_is held_is =
     let x = ending_by v.ending status has in
-    let opened : v.desk.opening ≡ opening = stands.opening ∙ opens in
+    let opened : v.desk.opening ≡ o = stands.opening ∙ opens in
     record {
       got = v.reader.got;
       read = rw left_is stands.left;
-      legal = rw log_is (subst (λ (o : Opening). Legal o v.desk.log) opened legal);
+      legal = rw log_is (subst (λ (o' : Opening). Legal o' v.desk.log) opened legal);
+      acted = rw log_is (subst (λ (o' : Opening). log.actions ≡ actions o' v.desk.log) opened actions_are);
       lines_are = rw (log_is, ended_is) sound.prefix;
-      wrote = rw (log_is, held_is) (subst (λ (o : Opening). Holds start.held v.desk.held (IsCut status) (written o v.desk.log)) opened (held_by start.held v.desk.held v.ending x.0 status (written v.desk.opening v.desk.log) x.1 x.2 stands.held));
+      wrote = rw (log_is, held_is) (subst (λ (o' : Opening). Holds start.held v.desk.held (IsCut status) (written o' v.desk.log)) opened (held_by start.held v.desk.held v.ending x.0 status (written v.desk.opening v.desk.log) x.1 x.2 stands.held));
       known = rw x.2 (known_status x.0);
-      complete = λ zero. rw (log_is, ended_is) (sound.complete (x.1 ∙ ap Some (complete_by x.0 (sym x.2 ∙ zero))));
-      only_complete = λ over. status_by x.0 status e.Complete (sym x.1 ∙ sound.only_complete (rw (log_is, ended_is) at over)) x.2;
+      complete = λ zero. rw (log_is, ended_is) (subst (λ (o' : Opening). IsOver o'.pad v.reader.got v.reader.ended v.desk.log) opened (sound.complete (x.1 ∙ ap Some (complete_by x.0 (sym x.2 ∙ zero)))));
+      only_complete = λ over. status_by x.0 status e.Complete (sym x.1 ∙ sound.only_complete (subst (λ (o' : Opening). IsOver o'.pad v.reader.got v.reader.ended v.desk.log) (sym opened) (rw (log_is, ended_is) at over))) x.2;
       long = λ seven. sound.long (x.1 ∙ ap Some (long_by x.0 (sym x.2 ∙ seven)));
       only_long = λ long. status_by x.0 status e.TooLong (sym x.1 ∙ sound.only_long long) x.2;
       few_polls = rw polls_is stands.polls;
-      few_acts = rw log_is (subst (λ (o : Opening). (after o v.desk.log).world.acts ≤ o.limits.acts) opened acts);
+      few_acts = rw log_is (subst (λ (o' : Opening). (after o' v.desk.log).world.acts ≤ o'.limits.acts) opened acts);
     }
   where
     status_by : (x : Ending) (status : ℕ) (y : Ending) → Some x ≡ Some y → status ≡ status_of x → status ≡ status_of y
     status_by x status y same is = let e' : x ≡ y = cc in is ∙ ap status_of e'
 
 -- a session for which there was no memory is a run of nothing
-pub ran_nothing : (left held : Option (List ℕ)) (polls : ℕ) (ended : Bool) (status : ℕ) (log : List Entry) → ended ≡ false → status ≡ 5 → log ≡ [] → Ran left left polls polls ended held held status log
-ran_nothing left held polls ended status log open_ five none = rw (open_, five, none) (record {
+pub ran_nothing : (o : Opening) (left held : Option (List ℕ)) (polls : ℕ) (ended : Bool) (status : ℕ) (log : LogValue) → ended ≡ false → status ≡ 5
+    → log.entries ≡ [] → log.actions ≡ [] → Ran o left left polls polls ended held held status log
+ran_nothing o left held polls ended status log open_ five none nothing = record {
   got = [];
   read = sym (before-nil left);
-  legal = tt;
-  lines_are = ([], refl);
-  wrote = record { sent = []; unsent = []; parts = refl; held = sym (behind-nil held); all = inr refl };
-  known = inr (inr (inr (inl refl)));
+  legal = rw none tt;
+  acted = rw none nothing;
+  lines_are = rw none ([], refl);
+  wrote = rw none (record { sent = []; unsent = []; parts = refl; held = sym (behind-nil held); all = inr refl });
+  known = rw five (inr (inr (inr (inl refl))));
   complete = λ is. absurd cc;
-  only_complete = λ over. absurd (elim over [ inl quit ↦ cc | inr all ↦ cc (all.0) ]);
+  only_complete = λ over. absurd (unover o.pad log.entries over none);
   long = λ is. absurd cc;
   only_long = λ is. absurd cc;
   few_polls = omega arith;
-  few_acts = omega arith;
-})
+  few_acts = rw none (omega arith);
+}
+  where
+    unover : (pad : Bool) (entries : List Entry) → IsOver pad [] ended entries → entries ≡ [] → ⊥
+    unover pad entries over e = elim (subst (λ (xs : List Entry). IsOver pad [] ended xs) e over) [ inl quit ↦ cc | inr all ↦ (let h : ended ≡ true = all.0 in cc) ]

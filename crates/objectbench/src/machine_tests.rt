@@ -1,10 +1,11 @@
-//! Objects, fields and calls on a machine over the built-in program, which no console line reaches yet.
+//! Objects, fields and calls on a machine over the built-in program.
 
 ghost use Rattle.std.specs.Prelude.{◌≡◌, Some, IfOk};
 ghost use Rattle.bj_core.specs.declared.program.Program.{Program};
 ghost use Rattle.bj_builtin.specs.Builtin.{builtin as spec_builtin};
 ghost use Rattle.bj_eval.specs.Typed.{IsTyped};
 ghost use Rattle.bj_eval.specs.Terms.{StandsFor};
+ghost use Rattle.bj_machine.specs.Reset.{CanBegin};
 ghost use Rattle.bj_core.specs.declared.tree.Expr.TheVariants as expr;
 ghost use Rattle.bj_core.specs.declared.tree.Stmt.TheVariants.{Return};
 ghost use Rattle.bj_core.specs.declared.types.Ty.TheVariants as ty;
@@ -14,11 +15,11 @@ use bj_builtin::{
     CELL, CELL_ADD, CELL_GET, CELL_INIT, builtin, calls_of_cells_are_typed, new_cells_are_typed,
 };
 use bj_core::{
-    Const, Done, Expr, HeapLimits, Limits, Local, Name, NoMemory, Seq, Span, Stmt, Term, TermKind,
-    Ty, Val,
+    Action, Const, Done, Entry, Expr, HeapLimits, Limits, Local, Name, NoMemory, Seq, Span, Stmt,
+    Term, TermKind, Ty, Val,
 };
 use bj_gen::generate;
-use bj_machine::{Machine, Step};
+use bj_machine::{Log, Machine, Step};
 use sqlite_items::{Boxed, Items};
 use std::alloc::Global;
 use std::process::Abort;
@@ -126,6 +127,144 @@ fn a_cell_is_made_added_to_and_read_and_a_second_has_no_room(rt: HostRuntime) ->
     let mut machine = machine(alloc).ok().ok_or("memory")?;
     add_and_read(&rt, alloc, &mut machine)?;
     find_no_room(&rt, alloc, &mut machine)
+}
+
+/// A Cell that holds 5 is made, the first object.
+fn make_first(rt: &impl Abort, alloc: Global, machine: &mut Machine) -> Result<(), Fail>
+    requires { machine.old.program ≡ spec_builtin }
+    ensures { machine.new.program ≡ machine.old.program }
+{
+    let made = result_of(machine, new_cell(alloc, 5)?);
+    assert!(rt; made == Some(Done::Value(CELL_OBJECT)));
+    Ok(())
+}
+
+/// What stands beside an entry of the log.
+#[derive(Clone, Copy, Debug, PartialEq, Eq)]
+enum Beside {
+    Nothing,
+    Point,
+    ClassBegins,
+    ClassEnds,
+    Made,
+    Written,
+    Ended,
+    Other,
+}
+
+/// What stands beside the entry at a place.
+fn kept_at(log: &Log, place: u64) -> Beside {
+    if place == 0 || place > log.len() {
+        return Beside::Nothing;
+    }
+    match log.action(place) {
+        None => Beside::Nothing,
+        Some(action) => match action {
+            Action::Point(_) => Beside::Point,
+            Action::InitBegin { .. } => Beside::ClassBegins,
+            Action::InitEnd { .. } => Beside::ClassEnds,
+            Action::Make { .. } => Beside::Made,
+            Action::Put { .. } => Beside::Written,
+            Action::End { .. } => Beside::Ended,
+            _ => Beside::Other,
+        },
+    }
+}
+
+/// The actions of `new Cell(5)`, worked by hand: the point before the statement, the class, the object, the points before
+/// and in the constructor, the field, the point behind it, and the end.
+fn are_of_new_cell(log: &Log) -> bool {
+    kept_at(log, 1) == Beside::Point
+        && kept_at(log, 2) == Beside::ClassBegins
+        && kept_at(log, 3) == Beside::ClassEnds
+        && kept_at(log, 4) == Beside::Made
+        && kept_at(log, 5) == Beside::Point
+        && kept_at(log, 6) == Beside::Point
+        && kept_at(log, 7) == Beside::Written
+        && kept_at(log, 8) == Beside::Point
+        && kept_at(log, 9) == Beside::Ended
+}
+
+/// A pause is noted behind the nine acts: it is the tenth entry, and nothing stands beside it.
+fn has_pause_behind_acts(machine: &mut Machine) -> bool {
+    machine.note(Entry::Pause).is_ok()
+        && machine.log().len() == 10
+        && kept_at(machine.log(), 10) == Beside::Nothing
+}
+
+#[test]
+fn the_log_has_each_act_with_its_action(rt: HostRuntime) -> Result<(), Fail> {
+    let alloc = rt.alloc();
+    let mut machine = machine(alloc).ok().ok_or("memory")?;
+    make_first(&rt, alloc, &mut machine)?;
+    assert!(&rt; has_pause_behind_acts(&mut machine));
+    assert!(&rt; are_of_new_cell(machine.log()));
+    Ok(())
+}
+
+/// Whether the machine begins anew, with the term, if there is one.
+fn begins_anew(machine: &mut Machine, term: Option<Term>) -> bool
+    requires { CanBegin machine.old.program term }
+    ensures { machine.new.program ≡ machine.old.program }
+{
+    match machine.reset(Entry::Pause, None, term) {
+        Ok(()) => true,
+        Err(_) => false,
+    }
+}
+
+/// The machine begins anew without a term, and a Cell is made again as the first object.
+fn begin_anew(rt: &impl Abort, alloc: Global, machine: &mut Machine) -> Result<(), Fail>
+    requires { machine.old.program ≡ spec_builtin }
+    ensures { machine.new.program ≡ machine.old.program }
+{
+    let begun = begins_anew(machine, None);
+    assert!(rt; begun);
+    assert!(rt; !machine.is_busy());
+    assert_eq!(rt; machine.log().len(), 11);
+    let made = result_of(machine, new_cell(alloc, 1)?);
+    assert!(rt; made == Some(Done::Value(CELL_OBJECT)));
+    Ok(())
+}
+
+/// The machine begins anew with a term, which makes a Cell as the first object.
+fn begin_with_term(rt: &impl Abort, alloc: Global, machine: &mut Machine) -> Result<(), Fail>
+    requires { machine.old.program ≡ spec_builtin }
+{
+    let begun = begins_anew(machine, Some(new_cell(alloc, 2)?));
+    assert!(rt; begun);
+    assert!(rt; machine.is_busy());
+    assert!(rt; run(machine) == Some(Done::Value(CELL_OBJECT)));
+    Ok(())
+}
+
+#[test]
+fn a_machine_begins_anew(rt: HostRuntime) -> Result<(), Fail> {
+    let alloc = rt.alloc();
+    let mut machine = machine(alloc).ok().ok_or("memory")?;
+    make_first(&rt, alloc, &mut machine)?;
+    begin_anew(&rt, alloc, &mut machine)?;
+    begin_with_term(&rt, alloc, &mut machine)
+}
+
+/// Room is made for more entries, and the log still has so many.
+fn has_after_reserve(machine: &mut Machine, entries: u64) -> bool {
+    machine.reserve().is_ok() && machine.log().len() == entries
+}
+
+/// Room is made in an empty log, and again behind a pause, which is the one entry.
+fn room_is_no_entry(machine: &mut Machine) -> bool {
+    has_after_reserve(machine, 0)
+        && machine.note(Entry::Pause).is_ok()
+        && has_after_reserve(machine, 1)
+}
+
+#[test]
+fn room_in_the_log_is_no_entry(rt: HostRuntime) -> Result<(), Fail> {
+    let alloc = rt.alloc();
+    let mut machine = machine(alloc).ok().ok_or("memory")?;
+    assert!(&rt; room_is_no_entry(&mut machine));
+    Ok(())
 }
 
 /// `new Cell(value)`.

@@ -12,7 +12,11 @@ use std::{env, io};
 use top::run_alone;
 
 #[cfg(test)]
+mod bench_tests;
+#[cfg(test)]
 mod machine_tests;
+#[cfg(test)]
+mod test_ends;
 #[cfg(test)]
 mod tests;
 

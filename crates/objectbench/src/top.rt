@@ -1,7 +1,7 @@
-ghost use Rattle.std.specs.Prelude.{◌≡◌, ◌⊎◌, [], true, false, IsSome};
+ghost use Rattle.std.specs.Prelude.{◌≡◌, ◌≤◌, ◌⊎◌, [], true, false, IsSome};
 ghost use Rattle.bj_io.specs.Told.{Rose};
 ghost use Rattle.bj_session.specs.Session.{Goes};
-ghost use Rattle.objectbench.specs.Top.{is_pad, opening, Ran, Refused, status_used};
+ghost use Rattle.objectbench.specs.Top.{is_pad, is_bench, is_option, opening, opening_of, Ran, Refused, status_used};
 
 use bj_core::{HeapLimits, Limits};
 use bj_history::{Opening, acts_are_within_the_limit};
@@ -14,7 +14,7 @@ use std::alloc::Global;
 const USAGE: &str =
     "usage: objectbench bench FOLDER [--runners N] [--actions N] | check FOLDER | test FOLDER [CLASS] | demo N | pad\n";
 
-/// Whether the words are `pad` alone, the one command that is built.
+/// Whether the words are `pad` alone.
 fn is_pad(words: &[String]) -> bool
     ensures { result ≡ is_pad words.now }
 {
@@ -24,12 +24,34 @@ fn is_pad(words: &[String]) -> bool
     }
 }
 
-/// What a session of `pad` begins with.
-fn opening() -> Opening
-    ensures { result ≡ opening }
+/// Whether a word begins with `-`, so that it is no folder.
+fn is_option(word: &[u8]) -> bool
+    ensures { result ≡ is_option word.now }
+{
+    match word {
+        [first, ..] => *first == b'-',
+        [] => false,
+    }
+}
+
+/// Whether the words are `bench` and a folder.
+fn is_bench(words: &[String]) -> bool
+    ensures { result ≡ is_bench words.now }
+{
+    match words {
+        [word, folder] => {
+            word.as_bytes() == b"bench".as_slice() && !is_option(folder.as_bytes())
+        }
+        _ => false,
+    }
+}
+
+/// What a session of `pad` or of `bench` begins with.
+fn opening(pad: bool) -> Opening
+    ensures { result ≡ opening pad }
 {
     Opening {
-        pad: true,
+        pad,
         limits: Limits {
             acts: 4_000_000,
             frames: 2_000,
@@ -40,6 +62,19 @@ fn opening() -> Opening
             },
         },
     }
+}
+
+/// What the session begins with that the words ask for.
+fn opening_of(words: &[String]) -> Option<Opening>
+    ensures { result ≡ opening_of words.now }
+{
+    if is_pad(words) {
+        return Some(opening(true));
+    }
+    if is_bench(words) {
+        return Some(opening(false));
+    }
+    None
 }
 
 /// Ticks the session until it is over.
@@ -71,7 +106,7 @@ fn refused<S: Source, K: Sink, C: Clock>(alloc: Global, mut ends: Ends<S, K, C>)
     ensures refused { Refused (K.held ends.sink) (K.held result.ends.sink) result.status }
     ensures sink_fault { result.status ≡ 4 → Rose (K.faults ends.sink) (K.faults result.ends.sink) }
     ensures others { (result.status ≡ 2) ⊎ (result.status ≡ 4) ⊎ (result.status ≡ 5) }
-    ensures log { result.log ≡ [] }
+    ensures log { result.log.entries ≡ [] }
     ensures source { result.ends.source ≡ ends.source }
 {
     let sent = put_all(&mut ends.sink, USAGE.as_bytes());
@@ -82,12 +117,32 @@ fn refused<S: Source, K: Sink, C: Clock>(alloc: Global, mut ends: Ends<S, K, C>)
     }
 }
 
+/// A session with this opening, from its beginning to its end.
+pub fn serve<S: Source, K: Sink, C: Clock>(
+    alloc: Global,
+    opening: Opening,
+    ends: Ends<S, K, C>,
+) -> Finish<S, K, C>
+    requires open { S.ended ends.source ≡ false }
+    requires frames { 2 ≤ opening.limits.frames }
+    ensures ran { Ran opening (S.left ends.source) (S.left result.ends.source) (S.polls ends.source) (S.polls result.ends.source) (S.ended result.ends.source) (K.held ends.sink) (K.held result.ends.sink) result.status result.log }
+    ensures source_fault { result.status ≡ 3 → Rose (S.faults ends.source) (S.faults result.ends.source) }
+    ensures sink_fault { result.status ≡ 4 → Rose (K.faults ends.sink) (K.faults result.ends.sink) }
+    ensures not_yet { result.status ≡ 8 → Rose (S.waits ends.source) (S.waits result.ends.source) }
+{
+    acts_are_within_the_limit();
+    match Session::new(alloc, opening, ends) {
+        Ok(session) => served(session).finish(),
+        Err(finish) => finish,
+    }
+}
+
 /// Does what the words ask for, on this thread alone, and returns.
 ///
-/// The words `pad` read the source's lines as those of the codepad, and write to the sink. Other words write how the
-/// program is called. The status tells how it ended: 0 where all is done, 2 where the words are not of the form, 3 at a
-/// fault of the source, 4 at a fault of the sink, 5 for want of memory, 7 at an input of too many bytes or lines, and 8 where
-/// nothing had arrived at a poll.
+/// The words `pad` read the source's lines as those of the codepad, the words `bench FOLDER` as those of the bench, and write
+/// to the sink; the folder is not read yet. Other words write how the program is called. The status tells how it ended: 0 where
+/// all is done, 2 where the words are not of the form, 3 at a fault of the source, 4 at a fault of the sink, 5 for want of memory,
+/// 7 at an input of too many bytes or lines, and 8 where nothing had arrived at a poll.
 pub fn run_alone<S: Source, K: Sink, C: Clock>(
     alloc: Global,
     words: &[String],
@@ -96,21 +151,18 @@ pub fn run_alone<S: Source, K: Sink, C: Clock>(
     requires { S.ended ends.source ≡ false }
 
     // One legal history, whose lines are those that were read and whose printing is what was written.
-    ensures pad { is_pad words.now ≡ true → Ran (S.left ends.source) (S.left result.ends.source) (S.polls ends.source) (S.polls result.ends.source) (S.ended result.ends.source) (K.held ends.sink) (K.held result.ends.sink) result.status result.log }
-    ensures refused { is_pad words.now ≡ false → Refused (K.held ends.sink) (K.held result.ends.sink) result.status × (result.log ≡ []) × (result.ends.source ≡ ends.source) }
+    ensures pad { is_pad words.now ≡ true → Ran (opening true) (S.left ends.source) (S.left result.ends.source) (S.polls ends.source) (S.polls result.ends.source) (S.ended result.ends.source) (K.held ends.sink) (K.held result.ends.sink) result.status result.log }
+    ensures bench { is_bench words.now ≡ true → Ran (opening false) (S.left ends.source) (S.left result.ends.source) (S.polls ends.source) (S.polls result.ends.source) (S.ended result.ends.source) (K.held ends.sink) (K.held result.ends.sink) result.status result.log }
+    ensures refused { is_pad words.now ≡ false → is_bench words.now ≡ false → Refused (K.held ends.sink) (K.held result.ends.sink) result.status × (result.log.entries ≡ []) × (result.ends.source ≡ ends.source) }
 
     // Why it ended.
-    ensures usage { result.status ≡ 2 → is_pad words.now ≡ false }
+    ensures usage { result.status ≡ 2 → (is_pad words.now ≡ false) × (is_bench words.now ≡ false) }
     ensures source_fault { result.status ≡ 3 → Rose (S.faults ends.source) (S.faults result.ends.source) }
     ensures sink_fault { result.status ≡ 4 → Rose (K.faults ends.sink) (K.faults result.ends.sink) }
     ensures not_yet { result.status ≡ 8 → Rose (S.waits ends.source) (S.waits result.ends.source) }
 {
-    if !is_pad(words) {
-        return refused(alloc, ends);
-    }
-    acts_are_within_the_limit();
-    match Session::new(alloc, opening(), ends) {
-        Ok(session) => served(session).finish(),
-        Err(finish) => finish,
+    match opening_of(words) {
+        Some(opening) => serve(alloc, opening, ends),
+        None => refused(alloc, ends),
     }
 }

@@ -17,8 +17,8 @@ invariant_of-self-2 c =
     let living = c.stores_know_what_lives.ensures.ends v.program v.store _ _ c.args.done _ c.self.invariant.store c.in-Ok.ensures.ok.0 in
     rw c.replace.ensures.after (sound_acted v _ _ _ c.self.invariant left living (does_end v c.args.done _ _ _ k over c.in-Ok.ensures.ok.0 left c.in-Ok.ensures.ok.1))
 
-pub returns : goal.returns
-returns c =
+pub returns-clause-steps : goal.returns-clause-steps
+returns-clause-steps c =
     let v : Shown = record { program = c.self.inside.program; code = c.self.inside.code; limits = c.self.inside.limits; store = c.self.inside.store; log = c.self.inside.log; main = c.self.inside.main; acts = c.self.inside.acts } in
     let k = rw (← c.self.view_is) at c.requires.ends in
     let over = rw (← c.self.view_is) at c.requires.done in

@@ -1,10 +1,6 @@
-use Rattle.std.proofs.Common.{refl, ap}
-use Rattle.bj_machine.specs.Shown.{Shown}
-use Rattle.bj_session.proofs.Notes.{unnoted, noted_silently}
+use Rattle.std.proofs.Common.{refl}
+use Rattle.bj_session.proofs.Notes.{unnoted}
 use Rattle.bj_session.proofs.desk.Desk.wake.Goals as goal
 
 pub returns-in-Err : goal.returns-in-Err
-returns-in-Err g c = rw (← c.self.view_is) (unnoted _ _ _ refl (ap (λ (m : Shown). m.log) c.in-Err.ensures.err) refl refl)
-
-pub returns : goal.returns
-returns g c = rw (← c.self.view_is) (noted_silently _ _ _ refl refl (ap (λ (m : Shown). m.log) c.in-Ok.ensures.ok) refl refl)
+returns-in-Err g c = unnoted _ _ _ refl refl refl refl

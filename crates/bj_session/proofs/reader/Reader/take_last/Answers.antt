@@ -1,4 +1,4 @@
-use Rattle.std.proofs.Common.{◌≡◌, ◌-◌, ◌<◌, List, ℕ, [], length, drop, take, refl, arith, subst, Bool, true, ◌∙◌}
+use Rattle.std.proofs.Common.{◌≡◌, ◌<◌, [], length, drop, refl, arith, subst, Bool, true, ◌∙◌}
 use Rattle.std.proofs.lemmas.Grind.{common_steps}
 use Rattle.bj_session.specs.Reading.{MayStill}
 use Rattle.bj_session.proofs.Readers.{reader_scanned, takes_last}

@@ -1,0 +1,6 @@
+use Rattle.std.proofs.Common.{sym, ◌∙◌}
+use Rattle.bj_reply.proofs.Forms.{any_from, when_busy}
+use Rattle.bj_reply.proofs.outcomes.starts_if_free.Goals as goal
+
+pub returns-then-is_busy : goal.returns-then-is_busy
+returns-then-is_busy c = any_from c.says.result c.args.machine.now _ _ c.says.ensures (λ s stands. when_busy s.world _ (sym (c.is_busy.ensures s.world stands) ∙ c.if-is_busy.true))
