@@ -1,0 +1,4 @@
+pub mod ExprNodes
+pub mod Heights
+pub mod StmtNodes
+pub mod Sums

@@ -1,0 +1,150 @@
+use crate::{MemberTrees, NamedPlace, NamedPlaces};
+use bj_core::{Copies, Name, NoMemory, Seq, Span};
+use std::alloc::Global;
+
+/// The modifiers of classes, interfaces and members but `default` [JLS 8.1.1, 8.3.1, 8.4.3].
+#[derive(Clone, Copy, Debug, PartialEq, Eq)]
+pub enum ModifierKind {
+    /// `public`
+    Public,
+    /// `protected`
+    Protected,
+    /// `private`
+    Private,
+    /// `abstract`
+    Abstract,
+    /// `static`
+    Static,
+    /// `final`
+    Final,
+    /// `synchronized`
+    Synchronized,
+    /// `volatile`
+    Volatile,
+}
+
+/// A modifier where it is written.
+#[derive(Clone, Copy, Debug, PartialEq, Eq)]
+pub struct Modifier {
+    /// Where it stands.
+    pub at: Span,
+    /// Which one it is.
+    pub kind: ModifierKind,
+}
+
+/// Modifiers, in order.
+pub type Modifiers = Seq<Modifier>;
+
+/// An annotation [JLS 9.7].
+#[derive(Drop)]
+pub struct AnnotationTree {
+    /// Where its `@` stands.
+    pub at: Span,
+    /// Its name.
+    pub name: NamedPlace,
+    /// The class that its element `expected` names, if it has one.
+    pub expected: Option<NamedPlace>,
+}
+
+/// Annotations, in order.
+pub type AnnotationTrees = Seq<AnnotationTree>;
+
+/// An import [JLS 7.5].
+#[derive(Drop)]
+pub struct ImportTree {
+    /// Where its first token stands.
+    pub at: Span,
+    /// Whether it imports static members [JLS 7.5.3, 7.5.4].
+    pub is_static: bool,
+    /// The identifiers of its name, in order, without the dots between them.
+    pub names: NamedPlaces,
+    /// Whether it ends with `.*` [JLS 7.5.2, 7.5.4].
+    pub is_on_demand: bool,
+}
+
+/// Imports, in order.
+pub type ImportTrees = Seq<ImportTree>;
+
+/// Whether it is a class or an interface [JLS 8.1, 9.1].
+#[derive(Clone, Copy, Debug, PartialEq, Eq)]
+pub enum ClassKind {
+    /// `class`
+    Class,
+    /// `interface`
+    Interface,
+}
+
+/// A file with the class or the interface in it [JLS 7.3, 8.1, 9.1].
+#[derive(Drop)]
+pub struct ClassTree {
+    /// The name of its file, without the ending.
+    pub file: Name,
+    /// The file's imports.
+    pub imports: ImportTrees,
+    /// Where its first token behind the imports stands.
+    pub at: Span,
+    /// Its annotations.
+    pub annotations: AnnotationTrees,
+    /// Its modifiers.
+    pub modifiers: Modifiers,
+    /// Whether it is a class or an interface.
+    pub kind: ClassKind,
+    /// Its name.
+    pub name: NamedPlace,
+    /// The class after a class's `extends` [JLS 8.1.4].
+    pub superclass: Option<NamedPlace>,
+    /// What stands after a class's `implements` or an interface's `extends` [JLS 8.1.5, 9.1.3].
+    pub superinterfaces: NamedPlaces,
+    /// Its members.
+    pub members: MemberTrees,
+    /// Where its closing brace stands.
+    pub end: Span,
+}
+
+/// Files, each with its class or interface.
+pub type ClassTrees = Seq<ClassTree>;
+
+impl Copies for Modifier {
+    fn copy(&self, _alloc: Global) -> Result<Modifier, NoMemory> {
+        Ok(*self)
+    }
+}
+
+impl Copies for AnnotationTree {
+    fn copy(&self, alloc: Global) -> Result<AnnotationTree, NoMemory> {
+        Ok(AnnotationTree {
+            at: self.at,
+            name: self.name.copy(alloc)?,
+            expected: self.expected.copy(alloc)?,
+        })
+    }
+}
+
+impl Copies for ImportTree {
+    fn copy(&self, alloc: Global) -> Result<ImportTree, NoMemory> {
+        Ok(ImportTree {
+            at: self.at,
+            is_static: self.is_static,
+            names: self.names.copy(alloc)?,
+            is_on_demand: self.is_on_demand,
+        })
+    }
+}
+
+impl Copies for ClassTree {
+    fn copy(&self, alloc: Global) -> Result<ClassTree, NoMemory> {
+        Ok(ClassTree {
+            file: self.file.copy(alloc)?,
+            imports: self.imports.copy(alloc)?,
+            at: self.at,
+            annotations: self.annotations.copy(alloc)?,
+            modifiers: self.modifiers.copy(alloc)?,
+            kind: self.kind,
+            name: self.name.copy(alloc)?,
+            superclass: self.superclass.copy(alloc)?,
+            superinterfaces: self.superinterfaces.copy(alloc)?,
+            members: self.members.copy(alloc)?,
+            end: self.end,
+        })
+    }
+}
