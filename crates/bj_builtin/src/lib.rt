@@ -6,8 +6,6 @@ mod laws;
 mod parts;
 mod prelude;
 mod program;
-#[cfg(test)]
-mod tests;
 
 pub use laws::{
     builtin_is_a_program, calls_of_cells_are_typed, cell_has_its_members, classes_stand_in_order,

@@ -4,8 +4,6 @@
 mod fault;
 mod header;
 mod heap;
-#[cfg(test)]
-mod tests;
 
 pub use fault::HeapFault;
 pub use heap::{Heap, cells_are_a_map};

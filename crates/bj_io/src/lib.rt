@@ -12,6 +12,3 @@ pub use memory::{MemClock, MemSink, MemSource};
 pub use reading::Reading;
 pub use traits::{Clock, Poll, Put, Sink, Source};
 pub use writing::Writing;
-
-#[cfg(test)]
-mod tests;

@@ -20,6 +20,3 @@ pub use numbers::{Numeral, numeral_of};
 pub use reading::tokens;
 pub use token::{Token, TokenKind, Tokens};
 pub use values::{char_value, text_value};
-
-#[cfg(test)]
-mod tests;

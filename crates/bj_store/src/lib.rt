@@ -9,8 +9,6 @@ mod opening;
 mod reaction;
 mod row;
 mod store;
-#[cfg(test)]
-mod tests;
 
 pub use laws::{
     classes_are_initialized_once, ends_are_answered, fields_are_of_objects, fields_have_their_kind,

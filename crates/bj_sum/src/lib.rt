@@ -3,12 +3,8 @@
 #![tactic(auto)]
 
 mod cells;
-#[cfg(test)]
-mod cells_tests;
 mod lex;
 mod sum;
-#[cfg(test)]
-mod tests;
 mod token;
 
 pub use cells::{CellCall, cells_are_read, read_call, read_creation};

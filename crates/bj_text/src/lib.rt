@@ -13,6 +13,3 @@ pub use escaping::{Quote, escape};
 pub use numeral::{decimal, parse_int};
 pub use unescaping::{EscapeFault, unescape};
 pub use utf::{TextFault, from_utf8, to_utf8, utf16};
-
-#[cfg(test)]
-mod tests;

@@ -28,6 +28,3 @@ pub use member::{
 pub use size::height;
 pub use stmt::{StmtTree, StmtTrees, VariableTree, VariableTrees};
 pub use types::{NamedPlace, NamedPlaces, TypeName, TypeTree, TypeTrees};
-
-#[cfg(test)]
-mod tests;

@@ -15,14 +15,13 @@ use bj_builtin::{
     CELL, CELL_ADD, CELL_GET, CELL_INIT, builtin, calls_of_cells_are_typed, new_cells_are_typed,
 };
 use bj_core::{
-    Action, Const, Done, Entry, Expr, HeapLimits, Limits, Local, Name, NoMemory, Seq, Span, Stmt,
+    Const, Done, Entry, Expr, HeapLimits, Limits, Local, Name, NoMemory, Program, Seq, Span, Stmt,
     Term, TermKind, Ty, Val,
 };
 use bj_gen::generate;
 use bj_machine::{Log, Machine, Step};
 use sqlite_items::{Boxed, Items};
 use std::alloc::Global;
-use std::process::Abort;
 use std::test::*;
 
 /// The place of the tokens of a term, which no test looks at.
@@ -34,12 +33,29 @@ const CELL_OBJECT: Val = Val::Ref {
     of: Ty::Class(CELL),
 };
 
+/// Lets a program go. Its drop stands here alone, so that no test's proof goes through it.
+fn forsake(_program: Program) {}
+
+/// Lets a log go, as `forsake` does a program.
+fn forget(_log: Log) {}
+
+/// Lets a machine go, of which only the log's drop is left to prove.
+fn dismiss(machine: Machine) {
+    forget(machine.into_log());
+}
+
 /// A machine over the built-in program, with room for one object more.
 fn machine(alloc: Global) -> Result<Machine, NoMemory>
     ensures { IfOk result (λ m. m.program ≡ spec_builtin) }
 {
     let program = builtin(alloc)?;
-    let code = generate(alloc, &program)?;
+    let code = match generate(alloc, &program) {
+        Ok(code) => code,
+        Err(_) => {
+            forsake(program);
+            return Err(NoMemory);
+        }
+    };
     let heap = HeapLimits {
         objects: 5,
         cells: 1,
@@ -94,112 +110,80 @@ fn result_of(machine: &mut Machine, term: Term) -> Option<Done>
     }
 }
 
-/// A Cell that holds 5 is made, 3 is added to it, and it is read.
-fn add_and_read(rt: &impl Abort, alloc: Global, machine: &mut Machine) -> Result<(), Fail>
+/// A Cell that holds 5 is made, the first object.
+fn makes_first(alloc: Global, machine: &mut Machine) -> bool
     requires { machine.old.program ≡ spec_builtin }
     ensures { machine.new.program ≡ machine.old.program }
 {
-    let made = result_of(machine, new_cell(alloc, 5)?);
-    assert!(rt; made == Some(Done::Value(CELL_OBJECT)));
-    assert_eq!(rt; machine.log().len(), 9);
-    let added = result_of(machine, call_add(alloc, 3)?);
-    assert!(rt; added == Some(Done::Value(Val::Int(8))));
-    assert_eq!(rt; machine.log().len(), 17);
-    let read = result_of(machine, call_get(alloc)?);
-    assert!(rt; read == Some(Done::Value(Val::Int(8))));
-    assert_eq!(rt; machine.log().len(), 22);
-    Ok(())
+    match new_cell(alloc, 5) {
+        Ok(term) => result_of(machine, term) == Some(Done::Value(CELL_OBJECT)),
+        Err(_) => false,
+    }
+}
+
+/// 3 is added to the Cell, which then holds 8.
+fn adds(alloc: Global, machine: &mut Machine) -> bool
+    requires { machine.old.program ≡ spec_builtin }
+    ensures { machine.new.program ≡ machine.old.program }
+{
+    match call_add(alloc, 3) {
+        Ok(term) => result_of(machine, term) == Some(Done::Value(Val::Int(8))),
+        Err(_) => false,
+    }
+}
+
+/// The Cell is read, which holds 8.
+fn reads(alloc: Global, machine: &mut Machine) -> bool
+    requires { machine.old.program ≡ spec_builtin }
+    ensures { machine.new.program ≡ machine.old.program }
+{
+    match call_get(alloc) {
+        Ok(term) => result_of(machine, term) == Some(Done::Value(Val::Int(8))),
+        Err(_) => false,
+    }
 }
 
 /// A second Cell finds no room: it is thrown OutOfMemoryError.
-fn find_no_room(rt: &impl Abort, alloc: Global, machine: &mut Machine) -> Result<(), Fail>
+fn finds_no_room(alloc: Global, machine: &mut Machine) -> bool
     requires { machine.old.program ≡ spec_builtin }
 {
-    let second = result_of(machine, new_cell(alloc, 6)?);
-    assert!(rt; matches!(second, Some(Done::Threw(_))));
-    assert_eq!(rt; machine.log().len(), 27);
-    Ok(())
-}
-
-#[test]
-fn a_cell_is_made_added_to_and_read_and_a_second_has_no_room(rt: HostRuntime) -> Result<(), Fail> {
-    let alloc = rt.alloc();
-    let mut machine = machine(alloc).ok().ok_or("memory")?;
-    add_and_read(&rt, alloc, &mut machine)?;
-    find_no_room(&rt, alloc, &mut machine)
-}
-
-/// A Cell that holds 5 is made, the first object.
-fn make_first(rt: &impl Abort, alloc: Global, machine: &mut Machine) -> Result<(), Fail>
-    requires { machine.old.program ≡ spec_builtin }
-    ensures { machine.new.program ≡ machine.old.program }
-{
-    let made = result_of(machine, new_cell(alloc, 5)?);
-    assert!(rt; made == Some(Done::Value(CELL_OBJECT)));
-    Ok(())
-}
-
-/// What stands beside an entry of the log.
-#[derive(Clone, Copy, Debug, PartialEq, Eq)]
-enum Beside {
-    Nothing,
-    Point,
-    ClassBegins,
-    ClassEnds,
-    Made,
-    Written,
-    Ended,
-    Other,
-}
-
-/// What stands beside the entry at a place.
-fn kept_at(log: &Log, place: u64) -> Beside {
-    if place == 0 || place > log.len() {
-        return Beside::Nothing;
-    }
-    match log.action(place) {
-        None => Beside::Nothing,
-        Some(action) => match action {
-            Action::Point(_) => Beside::Point,
-            Action::InitBegin { .. } => Beside::ClassBegins,
-            Action::InitEnd { .. } => Beside::ClassEnds,
-            Action::Make { .. } => Beside::Made,
-            Action::Put { .. } => Beside::Written,
-            Action::End { .. } => Beside::Ended,
-            _ => Beside::Other,
-        },
+    match new_cell(alloc, 6) {
+        Ok(term) => matches!(result_of(machine, term), Some(Done::Threw(_))),
+        Err(_) => false,
     }
 }
 
-/// The actions of `new Cell(5)`, worked by hand: the point before the statement, the class, the object, the points before
-/// and in the constructor, the field, the point behind it, and the end.
-fn are_of_new_cell(log: &Log) -> bool {
-    kept_at(log, 1) == Beside::Point
-        && kept_at(log, 2) == Beside::ClassBegins
-        && kept_at(log, 3) == Beside::ClassEnds
-        && kept_at(log, 4) == Beside::Made
-        && kept_at(log, 5) == Beside::Point
-        && kept_at(log, 6) == Beside::Point
-        && kept_at(log, 7) == Beside::Written
-        && kept_at(log, 8) == Beside::Point
-        && kept_at(log, 9) == Beside::Ended
+/// How many entries the log has.
+fn entries(machine: &Machine) -> u64 {
+    machine.log().len()
 }
 
-/// A pause is noted behind the nine acts: it is the tenth entry, and nothing stands beside it.
-fn has_pause_behind_acts(machine: &mut Machine) -> bool {
-    machine.note(Entry::Pause).is_ok()
-        && machine.log().len() == 10
-        && kept_at(machine.log(), 10) == Beside::Nothing
+/// A Cell is made, added to and read, and a second one finds no room; the log grows by the acts of each.
+fn uses_its_room(alloc: Global, machine: &mut Machine) -> bool
+    requires { machine.old.program ≡ spec_builtin }
+{
+    makes_first(alloc, machine)
+        && entries(machine) == 9
+        && adds(alloc, machine)
+        && entries(machine) == 17
+        && reads(alloc, machine)
+        && entries(machine) == 22
+        && finds_no_room(alloc, machine)
+        && entries(machine) == 27
 }
 
 #[test]
-fn the_log_has_each_act_with_its_action(rt: HostRuntime) -> Result<(), Fail> {
+fn a_cell_is_made_added_to_and_read_and_a_second_has_no_room(rt: HostRuntime) {
     let alloc = rt.alloc();
-    let mut machine = machine(alloc).ok().ok_or("memory")?;
-    make_first(&rt, alloc, &mut machine)?;
-    assert!(&rt; has_pause_behind_acts(&mut machine));
-    assert!(&rt; are_of_new_cell(machine.log()));
-    Ok(())
+    let found = match machine(alloc) {
+        Ok(mut machine) => {
+            let found = uses_its_room(alloc, &mut machine);
+            dismiss(machine);
+            found
+        }
+        Err(_) => false,
+    };
+    assert!(rt; found);
 }
 
 /// Whether the machine begins anew, with the term, if there is one.
@@ -213,43 +197,49 @@ fn begins_anew(machine: &mut Machine, term: Option<Term>) -> bool
     }
 }
 
-/// The machine begins anew without a term, and a Cell is made again as the first object.
-fn begin_anew(rt: &impl Abort, alloc: Global, machine: &mut Machine) -> Result<(), Fail>
+/// The machine begins anew with a term, which makes a Cell as the first object.
+fn begins_with_term(alloc: Global, machine: &mut Machine) -> bool
     requires { machine.old.program ≡ spec_builtin }
-    ensures { machine.new.program ≡ machine.old.program }
 {
-    let begun = begins_anew(machine, None);
-    assert!(rt; begun);
-    assert!(rt; !machine.is_busy());
-    assert_eq!(rt; machine.log().len(), 11);
-    let made = result_of(machine, new_cell(alloc, 1)?);
-    assert!(rt; made == Some(Done::Value(CELL_OBJECT)));
-    Ok(())
+    match new_cell(alloc, 2) {
+        Ok(term) => {
+            begins_anew(machine, Some(term))
+                && machine.is_busy()
+                && run(machine) == Some(Done::Value(CELL_OBJECT))
+        }
+        Err(_) => false,
+    }
 }
 
-/// The machine begins anew with a term, which makes a Cell as the first object.
-fn begin_with_term(rt: &impl Abort, alloc: Global, machine: &mut Machine) -> Result<(), Fail>
+/// A Cell is made, the machine begins anew without a term, a Cell is made again as the first object, and the machine begins anew with a term.
+fn is_new_again(alloc: Global, machine: &mut Machine) -> bool
     requires { machine.old.program ≡ spec_builtin }
 {
-    let begun = begins_anew(machine, Some(new_cell(alloc, 2)?));
-    assert!(rt; begun);
-    assert!(rt; machine.is_busy());
-    assert!(rt; run(machine) == Some(Done::Value(CELL_OBJECT)));
-    Ok(())
+    makes_first(alloc, machine)
+        && begins_anew(machine, None)
+        && !machine.is_busy()
+        && entries(machine) == 11
+        && makes_first(alloc, machine)
+        && begins_with_term(alloc, machine)
 }
 
 #[test]
-fn a_machine_begins_anew(rt: HostRuntime) -> Result<(), Fail> {
+fn a_machine_begins_anew(rt: HostRuntime) {
     let alloc = rt.alloc();
-    let mut machine = machine(alloc).ok().ok_or("memory")?;
-    make_first(&rt, alloc, &mut machine)?;
-    begin_anew(&rt, alloc, &mut machine)?;
-    begin_with_term(&rt, alloc, &mut machine)
+    let found = match machine(alloc) {
+        Ok(mut machine) => {
+            let found = is_new_again(alloc, &mut machine);
+            dismiss(machine);
+            found
+        }
+        Err(_) => false,
+    };
+    assert!(rt; found);
 }
 
-/// Room is made for more entries, and the log still has so many.
-fn has_after_reserve(machine: &mut Machine, entries: u64) -> bool {
-    machine.reserve().is_ok() && machine.log().len() == entries
+/// Whether room is made for more entries, and the log still has so many.
+fn has_after_reserve(machine: &mut Machine, count: u64) -> bool {
+    machine.reserve().is_ok() && entries(machine) == count
 }
 
 /// Room is made in an empty log, and again behind a pause, which is the one entry.
@@ -260,15 +250,20 @@ fn room_is_no_entry(machine: &mut Machine) -> bool {
 }
 
 #[test]
-fn room_in_the_log_is_no_entry(rt: HostRuntime) -> Result<(), Fail> {
-    let alloc = rt.alloc();
-    let mut machine = machine(alloc).ok().ok_or("memory")?;
-    assert!(&rt; room_is_no_entry(&mut machine));
-    Ok(())
+fn room_in_the_log_is_no_entry(rt: HostRuntime) {
+    let found = match machine(rt.alloc()) {
+        Ok(mut machine) => {
+            let found = room_is_no_entry(&mut machine);
+            dismiss(machine);
+            found
+        }
+        Err(_) => false,
+    };
+    assert!(rt; found);
 }
 
 /// `new Cell(value)`.
-fn new_cell(alloc: Global, value: i32) -> Result<Term, Fail>
+fn new_cell(alloc: Global, value: i32) -> Result<Term, NoMemory>
     ensures { IfOk result (λ t. IsTyped spec_builtin t) }
 {
     new_cells_are_typed();
@@ -292,28 +287,25 @@ fn new_cell(alloc: Global, value: i32) -> Result<Term, Fail>
 }
 
 /// `c.method(args)`, where the name `c` stands for the first object.
-fn call(alloc: Global, method: u32, args: Items<Expr>) -> Result<Term, Fail>
+fn call(alloc: Global, method: u32, args: Items<Expr>) -> Result<Term, NoMemory>
     ensures body { IfOk result (λ t. t.body ≡ Return AT (Some (expr.Virtual AT (expr.Local AT 0) 5 method args))) }
     ensures object { IfOk result (λ t. StandsFor t 0 (val.Ref 5 (ty.Class 5))) }
     ensures gives { IfOk result (λ t. t.gives ≡ ty.Int) }
 {
-    let object = Expr::Local { at: AT, slot: 0 };
+    let object = Boxed::new(alloc, Expr::Local { at: AT, slot: 0 })?;
+    let name = Name::from_slice(alloc, b"c")?;
     let mut scope = Seq::new(alloc);
-    let name = Name::from_slice(alloc, b"c").ok().ok_or("memory")?;
-    scope
-        .push(Local {
-            name,
-            value: CELL_OBJECT,
-        })
-        .ok()
-        .ok_or("memory")?;
+    scope.push(Local {
+        name,
+        value: CELL_OBJECT,
+    })?;
     Ok(Term {
         kind: TermKind::Call,
         body: Stmt::Return {
             at: AT,
             value: Some(Expr::Virtual {
                 at: AT,
-                object: Boxed::new(alloc, object).ok().ok_or("memory")?,
+                object,
                 class: CELL,
                 method,
                 args,
@@ -325,7 +317,7 @@ fn call(alloc: Global, method: u32, args: Items<Expr>) -> Result<Term, Fail>
 }
 
 /// `c.add(value)`.
-fn call_add(alloc: Global, value: i32) -> Result<Term, Fail>
+fn call_add(alloc: Global, value: i32) -> Result<Term, NoMemory>
     ensures { IfOk result (λ t. IsTyped spec_builtin t) }
 {
     calls_of_cells_are_typed();
@@ -335,7 +327,7 @@ fn call_add(alloc: Global, value: i32) -> Result<Term, Fail>
 }
 
 /// `c.get()`.
-fn call_get(alloc: Global) -> Result<Term, Fail>
+fn call_get(alloc: Global) -> Result<Term, NoMemory>
     ensures { IfOk result (λ t. IsTyped spec_builtin t) }
 {
     calls_of_cells_are_typed();

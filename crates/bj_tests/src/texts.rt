@@ -1,4 +1,4 @@
-use crate::{
+use bj_text::{
     EscapeFault, Quote, TextFault, decimal, escape, from_utf8, parse_int, to_utf8, unescape,
 };
 use std::test::Fail;

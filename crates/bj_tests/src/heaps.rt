@@ -1,5 +1,5 @@
-use crate::{Heap, HeapFault};
 use bj_core::{HeapLimits, Ty, Val};
+use bj_heap::{Heap, HeapFault};
 use std::test::Fail;
 
 #[test]

@@ -1,5 +1,5 @@
-use crate::{Clock, MemClock, MemSink, MemSource, Poll, Put, Sink, Source};
 use bj_core::Seq;
+use bj_io::{Clock, MemClock, MemSink, MemSource, Poll, Put, Sink, Source};
 use std::test::*;
 
 #[test]
