@@ -4,3 +4,4 @@ pub mod Forms
 pub mod Short
 pub mod Pads
 pub mod Quits
+pub mod Memory

@@ -101,17 +101,25 @@ is_quit_form form = false
 abbrev pub is_quit : List ℕ → Bool
 is_quit line = is_quit_form (form_of line)
 
+-- reading the line may want memory: its form keeps a name or a text of it
+abbrev pub keeps_text : Result Command LineFault → Bool
+keeps_text (Ok (Pad text)) = true
+keeps_text (Ok (New name text)) = true
+keeps_text (Ok (Call text)) = true
+keeps_text (Ok (Inspect name)) = true
+keeps_text form = false
+
 -- memory may be wanting where the line is read or replied: for all but `quit` and a blank line
 abbrev pub takes_memory : Result Command LineFault → Bool
 takes_memory (Ok Blank) = false
 takes_memory (Ok Quit) = false
 takes_memory form = true
 
--- the answer is the form of the line, or want of memory where it may be wanting
+-- the answer is the form of the line, or want of memory where reading may want it
 abbrev pub IsForm : Result Command LineFault → Result Command LineFault → Type 0
 IsForm (Ok command) form = form ≡ Ok command
 IsForm (Err (BadLine at)) form = form ≡ Err (BadLine at)
-IsForm (Err NoMemory) form = takes_memory form ≡ true
+IsForm (Err NoMemory) form = keeps_text form ≡ true
 
 -- the forms that `pad` reads
 abbrev pub IsOfPad : Result Command LineFault → Type 0

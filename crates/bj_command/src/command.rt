@@ -77,12 +77,12 @@ fn command_of(alloc: Global, pad: bool, line: &[u8]) -> Result<Command, LineFaul
     }
 }
 
-/// What a line of `bench` asks for. A blank line and `quit` take no memory.
+/// What a line of `bench` asks for.
 ///
 /// # Errors
 ///
-/// `BadLine` with its place, exactly where the line is of no form; `NoMemory` only where there is a name or a
-/// text to be kept.
+/// `BadLine` with its place, exactly where the line is of no form; `NoMemory` only where it is of a form that keeps a name or
+/// a text.
 #[tactic(auto, using(crate::proofs::Short::short_form))]
 pub fn read_line(alloc: Global, line: &[u8]) -> Result<Command, LineFault>
     ensures form { IsForm result (form_of line.now) }

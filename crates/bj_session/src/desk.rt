@@ -1,17 +1,16 @@
 ghost use Rattle.std.specs.Prelude.{◌≡◌, ◌≤◌, ◌<◌, IfOk, IfErr, true, false, is_some};
 ghost use Rattle.bj_core.specs.declared.entry.Entry.TheVariants as entry;
 ghost use Rattle.bj_command.specs.Words.{form_in, takes_memory};
+ghost use Rattle.bj_code.specs.ProgramCode.{program_code};
 ghost use Rattle.bj_history.specs.History.{after, actions, loaded, setting, Fits, Legal, has_quit};
-ghost use Rattle.bj_machine.specs.Shown.{IsFresh};
 ghost use Rattle.bj_machine.specs.World.{is_enabled};
 ghost use Rattle.bj_session.specs.Desk.{fresh_desk, world_of, is_last, HasNoted, HasLined, HasActed, HasFollowed, MayTake, IsDecided};
 
 use crate::entering::enter;
 use crate::naming::{bind_end, release, unbind};
 use crate::{Sent, put_all};
-use bj_builtin::{builtin, no_field_is_void};
-use bj_core::{Bytes, Entry, Limits, Name, NoMemory, Reason, Seq};
-use bj_gen::generate;
+use bj_code::Code;
+use bj_core::{Bytes, Entry, Name, Program, Reason, Seq};
 use bj_history::{Opening, Wait};
 use bj_io::Sink;
 use bj_machine::{Log, Machine, Step};
@@ -58,32 +57,26 @@ impl<K: Sink> Model for Desk<K> {
 /// Lets go what a line asked. Its drop stands here alone, so that no caller's proof goes through it.
 fn let_go(_asked: Asked) {}
 
-/// A machine over the program that is loaded at the opening.
-///
-/// # Errors
-///
-/// `NoMemory` where there is no room for the program, its code or its store.
-fn load(alloc: Global, limits: Limits) -> Result<Machine, NoMemory>
-    requires { 2 ≤ limits.frames }
-    ensures { IfOk result (λ m. IsFresh loaded limits m) }
-{
-    let program = builtin(alloc)?;
-    let code = generate(alloc, &program)?;
-    Machine::new(alloc, program, code, limits)
-}
-
 impl<K: Sink> Desk<K> {
-    /// A desk on which nothing has happened.
+    /// A desk on which nothing has happened, with a machine over the program that is loaded at the opening.
     ///
     /// # Errors
     ///
     /// The sink, where there is no room for the machine.
-    pub fn new(alloc: Global, opening: Opening, sink: K) -> Result<Desk<K>, K>
-        requires { 2 ≤ opening.limits.frames }
+    pub fn new(
+        alloc: Global,
+        opening: Opening,
+        program: Program,
+        code: Code,
+        sink: K,
+    ) -> Result<Desk<K>, K>
+        requires frames { 2 ≤ opening.limits.frames }
+        requires loaded { program ≡ loaded }
+        requires code { code ≡ program_code program }
         ensures ok { IfOk result (λ d. d ≡ fresh_desk opening (K.held sink) (K.faults sink)) }
         ensures err { IfErr result (λ k. k ≡ sink) }
     {
-        match load(alloc, opening.limits) {
+        match Machine::new(alloc, program, code, opening.limits) {
             Ok(machine) => Ok(Desk {
                 opening,
                 machine,

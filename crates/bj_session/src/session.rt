@@ -1,13 +1,15 @@
 ghost use Rattle.std.specs.Prelude.{◌≡◌, ◌<◌, ◌≤◌, true, false, Some, None, IfOk, IfErr, IsSome, []};
 ghost use Rattle.bj_command.specs.Words.{is_quit};
-ghost use Rattle.bj_history.specs.History.{after, actions, setting, Legal, Wakes};
+ghost use Rattle.bj_code.specs.ProgramCode.{program_code};
+ghost use Rattle.bj_history.specs.History.{after, actions, loaded, setting, Legal, Wakes};
 ghost use Rattle.bj_machine.specs.World.{is_enabled};
 ghost use Rattle.bj_session.specs.Desk.{world_of};
 ghost use Rattle.bj_session.specs.Session.{Goes, IsSound, todo, ending_after, ending_polled, ending_lined, ending_woken, ends_at, fresh_session, HasStatus};
 
 use crate::{Decision, Desk, Ending, Ends, Finish, Polled, Reader, Sent, Taken, Turn};
+use bj_code::Code;
 use bj_command::is_quit;
-use bj_core::Reason;
+use bj_core::{Limits, Program, Reason};
 use bj_history::Opening;
 use bj_io::{Clock, Sink, Source};
 use bj_machine::Log;
@@ -96,19 +98,26 @@ fn ending_woken(sent: Sent, last: bool, over: bool) -> Option<Ending>
 }
 
 impl<S: Source, K: Sink, C: Clock> Session<S, K, C> {
-    /// A session over these ends.
+    /// A session over these ends, in `pad` or in `bench`. Its machine runs the program with this code and may do as much as the
+    /// limits say, of which a thread's frames are at least two. The program is the one that is loaded at an opening; the code
+    /// is its own.
     ///
     /// # Errors
     ///
     /// A run that ended for want of memory, with an empty log, and with the ends as they were.
     pub fn new(
         alloc: Global,
-        opening: Opening,
         ends: Ends<S, K, C>,
+        program: Program,
+        code: Code,
+        limits: Limits,
+        pad: bool,
     ) -> Result<Session<S, K, C>, Finish<S, K, C>>
         requires open { S.ended ends.source ≡ false }
-        requires frames { 2 ≤ opening.limits.frames }
-        ensures ok { IfOk result (λ s. s ≡ fresh_session opening (S.left ends.source) (S.faults ends.source) (S.waits ends.source) (S.polls ends.source) (K.held ends.sink) (K.faults ends.sink)) }
+        requires frames { 2 ≤ limits.frames }
+        requires loaded { program ≡ loaded }
+        requires code { code ≡ program_code program }
+        ensures ok { IfOk result (λ s. s ≡ fresh_session (record { pad = pad; limits = limits }) (S.left ends.source) (S.faults ends.source) (S.waits ends.source) (S.polls ends.source) (K.held ends.sink) (K.faults ends.sink)) }
         ensures err { IfErr result (λ f. (f.status ≡ 5) × (f.log.entries ≡ []) × (f.log.actions ≡ []) × (f.ends ≡ ends)) }
     {
         let Ends {
@@ -116,7 +125,7 @@ impl<S: Source, K: Sink, C: Clock> Session<S, K, C> {
             sink,
             clock,
         } = ends;
-        match Desk::new(alloc, opening, sink) {
+        match Desk::new(alloc, Opening { pad, limits }, program, code, sink) {
             Ok(desk) => Ok(Session {
                 reader: Reader::new(alloc, source),
                 desk,

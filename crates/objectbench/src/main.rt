@@ -1,6 +1,7 @@
 //! An object bench over a Java machine of its own.
 #![tactic(auto)]
 
+mod loading;
 mod top;
 
 use bj_core::NoMemory;

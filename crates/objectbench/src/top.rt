@@ -1,13 +1,14 @@
-ghost use Rattle.std.specs.Prelude.{◌≡◌, ◌≤◌, ◌⊎◌, [], true, false, IsSome};
+ghost use Rattle.std.specs.Prelude.{◌≡◌, ◌≤◌, ◌⊎◌, [], true, false, IfErr, IfOk, IsSome};
 ghost use Rattle.bj_io.specs.Told.{Rose};
-ghost use Rattle.bj_session.specs.Session.{Goes};
+ghost use Rattle.bj_session.specs.Session.{Goes, fresh_session};
 ghost use Rattle.objectbench.specs.Top.{is_pad, is_bench, is_option, opening, opening_of, Ran, Refused, status_used};
 
+use crate::loading::load;
 use bj_core::{HeapLimits, Limits};
 use bj_history::{Opening, acts_are_within_the_limit};
 use bj_io::{Clock, Sink, Source};
-use bj_machine::Log;
-use bj_session::{Ends, Finish, Sent, Session, Turn, put_all};
+use bj_machine::{Loaded, Log};
+use bj_session::{Ending, Ends, Finish, Sent, Session, Turn, put_all};
 use std::alloc::Global;
 
 /// How the program is called.
@@ -117,6 +118,33 @@ fn refused<S: Source, K: Sink, C: Clock>(alloc: Global, mut ends: Ends<S, K, C>)
     }
 }
 
+/// The session that begins with this opening, over the program that is loaded.
+///
+/// # Errors
+///
+/// A run that ended for want of memory, with an empty log, and with the ends as they were.
+fn open_session<S: Source, K: Sink, C: Clock>(
+    alloc: Global,
+    opening: Opening,
+    ends: Ends<S, K, C>,
+) -> Result<Session<S, K, C>, Finish<S, K, C>>
+    requires open { S.ended ends.source ≡ false }
+    requires frames { 2 ≤ opening.limits.frames }
+    ensures ok { IfOk result (λ s. s ≡ fresh_session opening (S.left ends.source) (S.faults ends.source) (S.waits ends.source) (S.polls ends.source) (K.held ends.sink) (K.faults ends.sink)) }
+    ensures err { IfErr result (λ f. (f.status ≡ 5) × (f.log.entries ≡ []) × (f.log.actions ≡ []) × (f.ends ≡ ends)) }
+{
+    match load(alloc) {
+        Ok(Loaded { program, code }) => {
+            Session::new(alloc, ends, program, code, opening.limits, opening.pad)
+        }
+        Err(_) => Err(Finish {
+            status: Ending::NoMemory.status(),
+            ends,
+            log: Log::new(alloc),
+        }),
+    }
+}
+
 /// A session with this opening, from its beginning to its end.
 pub fn serve<S: Source, K: Sink, C: Clock>(
     alloc: Global,
@@ -131,7 +159,7 @@ pub fn serve<S: Source, K: Sink, C: Clock>(
     ensures not_yet { result.status ≡ 8 → Rose (S.waits ends.source) (S.waits result.ends.source) }
 {
     acts_are_within_the_limit();
-    match Session::new(alloc, opening, ends) {
+    match open_session(alloc, opening, ends) {
         Ok(session) => served(session).finish(),
         Err(finish) => finish,
     }
