@@ -1,0 +1,11 @@
+use Rattle.std.proofs.Common.{arith}
+use Rattle.bj_grammar.specs.Given.{text_of}
+use Rattle.bj_grammar.proofs.LoopLemmas.{gives_same}
+use Rattle.bj_expr.proofs.DepthLemmas.{nested_zero, nested_more}
+use Rattle.bj_expr.proofs.parts.+nested.Goals as goal
+
+pub returns-then-depth-eq0 : goal.returns-then-depth-eq0
+returns-then-depth-eq0 t c = nested_zero c.args.tokens.now c.args.bounds c.args.depth c.args.part (text_of c.args.tokens.now) c.args.at c.if-depth-eq0.true
+
+pub returns : goal.returns
+returns t c = gives_same _ _ _ (nested_more c.args.tokens.now c.args.bounds c.args.depth c.args.part (text_of c.args.tokens.now) c.args.at (omega arith)) c.rule.ensures

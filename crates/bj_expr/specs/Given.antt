@@ -1,0 +1,43 @@
+-- What the functions that read give.
+use Rattle.std.specs.Prelude.{ℕ, List, Result}
+use Rattle.std.specs.declared.alloc.Global.{Global}
+use denote.Bor.{Bor}
+use Rattle.bj_core.specs.declared.types.Span.{Span}
+use Rattle.bj_lex.specs.declared.token.Token.{Token}
+use Rattle.bj_tree.specs.declared.expr.ExprTree.{ExprTree}
+use Rattle.bj_expr.specs.declared.bounds.Bounds.{Bounds}
+use Rattle.bj_expr.specs.declared.part.Part.{Part}
+use Rattle.bj_grammar.specs.declared.stop.Stop.{Stop}
+use Rattle.bj_grammar.specs.declared.terminal.Terminal.TheVariants as t
+use Rattle.bj_grammar.specs.Terminal.{among}
+use Rattle.bj_grammar.specs.Given.{text_of, place_of, Gives}
+use Rattle.bj_grammar.specs.Reader.{Parser, loop}
+use Rattle.bj_expr.specs.Grammar.{step_ops}
+use Rattle.bj_expr.specs.Reading.{nested, is, selectors, goes_on, comma, selection, postfix_step, operation, level}
+
+-- a rule over the readers of nested parts of some tokens
+abbrev pub over_nested : {B : Type 0} → ((ℕ → Span) → Bounds → (Part → Parser ExprTree) → B) → List Token → Bounds → ℕ → B
+over_nested rule tokens bounds depth = rule (place_of tokens) bounds (nested (place_of tokens) bounds depth)
+
+-- A function value that reads nested parts.
+pub record Nests (bounds : Bounds) (depth : ℕ) (pre : Global → Bor (List Token) → Bounds → ℕ → ℕ → Part → Type 0)
+    (post : Global → Bor (List Token) → Bounds → ℕ → ℕ → Part → Result (ExprTree × ℕ) Stop → Type 0) : Type 0 where
+  pub callable : (alloc : Global) (tokens : Bor (List Token)) (at : ℕ) (part : Part) → pre alloc tokens bounds depth at part
+  pub reads : (alloc : Global) (tokens : Bor (List Token)) (at : ℕ) (part : Part) (r : Result (ExprTree × ℕ) Stop) → post alloc tokens bounds depth at part r
+      → Gives r (nested (place_of tokens.now) bounds depth part (text_of tokens.now) at)
+
+-- the expressions after a first one, each after a comma
+abbrev pub commas_of : Bounds → ℕ → List Token → List ExprTree → Parser (List ExprTree)
+commas_of bounds depth tokens = loop bounds.most (is t.Comma) (over_nested comma tokens bounds depth)
+
+-- all that is selected from a primary expression
+abbrev pub selections_of : Bounds → ℕ → List Token → ℕ → ExprTree → Parser ExprTree
+selections_of bounds depth tokens start = loop bounds.most (among selectors) (over_nested selection tokens bounds depth start)
+
+-- each `++` and `--` behind an operand
+abbrev pub steps_of : Bounds → ℕ → List Token → ℕ → ExprTree → Parser ExprTree
+steps_of bounds depth tokens start = loop bounds.most (among step_ops) (over_nested postfix_step tokens bounds depth start)
+
+-- the operators of a rank, after a first operand
+abbrev pub operations_of : Bounds → ℕ → List Token → ℕ → ℕ → ExprTree → Parser ExprTree
+operations_of bounds depth tokens rank start = loop bounds.most (goes_on rank) (over_nested operation tokens bounds depth (over_nested level tokens bounds depth rank) rank start)

@@ -1,0 +1,211 @@
+ghost use Rattle.std.specs.Prelude.{◌≡◌, IfOk};
+ghost use Rattle.bj_expr.specs.Reading as spec;
+ghost use Rattle.bj_grammar.specs.Given.{text_of, place_of, Gives};
+ghost use Rattle.bj_expr.specs.Given.{Nests, over_nested};
+ghost use Rattle.bj_tree.specs.declared.expr.ExprTree.TheVariants as trees;
+
+use crate::forms::is_unary;
+use crate::operators::assign_op;
+use crate::reader::Reader;
+use crate::sets::{assign_at, is_assign};
+use crate::{Bounds, Part};
+use bj_core::Span;
+use bj_grammar::{Stop, Symbol, Terminal, place, sees, word};
+use bj_tree::ExprTree;
+use sqlite_items::Boxed;
+use std::alloc::{AllocError, Global};
+
+/// How many ranks of operators with two operands there are.
+const RANKS: u8 = 10;
+
+/// A node of a conditional expression.
+fn conditional(
+    alloc: Global,
+    at: Span,
+    test: ExprTree,
+    chosen: ExprTree,
+    other: ExprTree,
+) -> Result<ExprTree, AllocError>
+    ensures { IfOk result (λ tree. tree ≡ trees.Conditional at test chosen other) }
+{
+    let test = Boxed::new(alloc, test)?;
+    let chosen = Boxed::new(alloc, chosen)?;
+    let other = Boxed::new(alloc, other)?;
+    Ok(ExprTree::Conditional {
+        at,
+        test,
+        chosen,
+        other,
+    })
+}
+
+impl<
+    F: Fn(Global, &[Symbol], Bounds, usize, usize, Part) -> Result<(ExprTree, usize), Stop>,
+> Reader<F> {
+    /// A question mark and the two ways of a conditional expression.
+    #[tactic(auto, unfolding(crate::specs::Reading::alternatives))]
+    pub(crate) fn alternatives(
+        &self,
+        tokens: &[Symbol],
+        start: usize,
+        test: ExprTree,
+        at: usize,
+    ) -> Result<(ExprTree, usize), Stop>
+        requires { Nests self.now.bounds self.now.depth (F.pre self.now.nested) (F.post self.now.nested) }
+        ensures { Gives result (over_nested spec.alternatives tokens.now self.now.bounds self.now.depth start test (text_of tokens.now) at) }
+    {
+        let at = word(tokens, at, Terminal::Question)?;
+        let (chosen, at) = self.nest(tokens, at, Part::Expression)?;
+        let at = word(tokens, at, Terminal::Colon)?;
+        self.otherwise(tokens, start, test, chosen, at)
+    }
+
+    /// The second way, after the colon.
+    #[tactic(auto, unfolding(crate::specs::Reading::otherwise))]
+    pub(crate) fn otherwise(
+        &self,
+        tokens: &[Symbol],
+        start: usize,
+        test: ExprTree,
+        chosen: ExprTree,
+        at: usize,
+    ) -> Result<(ExprTree, usize), Stop>
+        requires { Nests self.now.bounds self.now.depth (F.pre self.now.nested) (F.post self.now.nested) }
+        ensures { Gives result (over_nested spec.otherwise tokens.now self.now.bounds self.now.depth start test chosen (text_of tokens.now) at) }
+    {
+        let (other, at) = self.nest(tokens, at, Part::Conditional)?;
+        let tree = conditional(self.alloc, place(tokens, start), test, chosen, other)?;
+        Ok((tree, at))
+    }
+
+    /// The two ways of a conditional expression, if a question mark comes next.
+    #[tactic(auto, unfolding(crate::specs::Reading::chosen))]
+    pub(crate) fn chosen(
+        &self,
+        tokens: &[Symbol],
+        start: usize,
+        test: ExprTree,
+        at: usize,
+    ) -> Result<(ExprTree, usize), Stop>
+        requires { Nests self.now.bounds self.now.depth (F.pre self.now.nested) (F.post self.now.nested) }
+        ensures { Gives result (over_nested spec.chosen tokens.now self.now.bounds self.now.depth start test (text_of tokens.now) at) }
+    {
+        if sees(tokens, at, Terminal::Question) {
+            return self.alternatives(tokens, start, test, at);
+        }
+        Ok((test, at))
+    }
+
+    /// A conditional expression, or one that binds tighter [JLS 15.25].
+    #[tactic(auto, unfolding(crate::specs::Reading::conditional))]
+    pub(crate) fn conditional(
+        &self,
+        tokens: &[Symbol],
+        start: usize,
+    ) -> Result<(ExprTree, usize), Stop>
+        requires { Nests self.now.bounds self.now.depth (F.pre self.now.nested) (F.post self.now.nested) }
+        ensures { Gives result (over_nested spec.conditional tokens.now self.now.bounds self.now.depth (text_of tokens.now) start) }
+    {
+        let (test, at) = self.level(tokens, start, RANKS)?;
+        self.chosen(tokens, start, test, at)
+    }
+
+    /// An operator of assignment and what is assigned [JLS 15.26].
+    #[tactic(auto, unfolding(crate::specs::Reading::assignment))]
+    pub(crate) fn assignment(
+        &self,
+        tokens: &[Symbol],
+        start: usize,
+        target: ExprTree,
+        at: usize,
+    ) -> Result<(ExprTree, usize), Stop>
+        requires { Nests self.now.bounds self.now.depth (F.pre self.now.nested) (F.post self.now.nested) }
+        ensures { Gives result (over_nested spec.assignment tokens.now self.now.bounds self.now.depth start target (text_of tokens.now) at) }
+    {
+        let (op, at) = assign_at(tokens, at)?;
+        let (value, at) = self.nest(tokens, at, Part::Expression)?;
+        let tree = ExprTree::Assign {
+            at: place(tokens, start),
+            op: assign_op(op),
+            target: Boxed::new(self.alloc, target)?,
+            value: Boxed::new(self.alloc, value)?,
+        };
+        Ok((tree, at))
+    }
+
+    /// An assignment, if the left side is unary and an operator of assignment comes next.
+    #[tactic(auto, unfolding(crate::specs::Reading::assigned))]
+    pub(crate) fn assigned(
+        &self,
+        tokens: &[Symbol],
+        start: usize,
+        target: ExprTree,
+        at: usize,
+    ) -> Result<(ExprTree, usize), Stop>
+        requires { Nests self.now.bounds self.now.depth (F.pre self.now.nested) (F.post self.now.nested) }
+        ensures { Gives result (over_nested spec.assigned tokens.now self.now.bounds self.now.depth start target (text_of tokens.now) at) }
+    {
+        if is_unary(&target) {
+            if is_assign(tokens, at) {
+                return self.assignment(tokens, start, target, at);
+            }
+            return Ok((target, at));
+        }
+        Ok((target, at))
+    }
+
+    /// A whole expression.
+    #[tactic(auto, unfolding(crate::specs::Reading::expression))]
+    pub(crate) fn expression(
+        &self,
+        tokens: &[Symbol],
+        start: usize,
+    ) -> Result<(ExprTree, usize), Stop>
+        requires { Nests self.now.bounds self.now.depth (F.pre self.now.nested) (F.post self.now.nested) }
+        ensures { Gives result (over_nested spec.expression tokens.now self.now.bounds self.now.depth (text_of tokens.now) start) }
+    {
+        let (left, at) = self.conditional(tokens, start)?;
+        self.assigned(tokens, start, left, at)
+    }
+
+    /// What a variable is given: an expression, or values in braces [JLS 8.3, 10.6].
+    #[tactic(auto, unfolding(crate::specs::Reading::initializer))]
+    pub(crate) fn initializer(
+        &self,
+        tokens: &[Symbol],
+        start: usize,
+    ) -> Result<(ExprTree, usize), Stop>
+        requires { Nests self.now.bounds self.now.depth (F.pre self.now.nested) (F.post self.now.nested) }
+        ensures { Gives result (over_nested spec.initializer tokens.now self.now.bounds self.now.depth (text_of tokens.now) start) }
+    {
+        if sees(tokens, start, Terminal::LeftBrace) {
+            let (values, at) = self.values(tokens, start)?;
+            let tree = ExprTree::Braces {
+                at: place(tokens, start),
+                values,
+            };
+            return Ok((tree, at));
+        }
+        self.expression(tokens, start)
+    }
+
+    /// A part.
+    #[tactic(auto, unfolding(crate::specs::Reading::rule))]
+    pub(crate) fn rule(
+        &self,
+        tokens: &[Symbol],
+        start: usize,
+        part: Part,
+    ) -> Result<(ExprTree, usize), Stop>
+        requires { Nests self.now.bounds self.now.depth (F.pre self.now.nested) (F.post self.now.nested) }
+        ensures { Gives result (over_nested spec.rule tokens.now self.now.bounds self.now.depth part (text_of tokens.now) start) }
+    {
+        match part {
+            Part::Expression => self.expression(tokens, start),
+            Part::Conditional => self.conditional(tokens, start),
+            Part::Unary => self.unary(tokens, start),
+            Part::Plain => self.plain(tokens, start),
+            Part::Initializer => self.initializer(tokens, start),
+        }
+    }
+}

@@ -1,0 +1,149 @@
+ghost use Rattle.std.specs.Prelude.{◌≡◌, IfOk};
+ghost use Rattle.bj_expr.specs.Grammar as grammar;
+ghost use Rattle.bj_expr.specs.Reading as spec;
+ghost use Rattle.bj_grammar.specs.Given.{text_of, place_of, Gives};
+ghost use Rattle.bj_expr.specs.Given.{Nests, over_nested, operations_of};
+ghost use Rattle.bj_tree.specs.declared.expr.ExprTree.TheVariants as trees;
+
+use crate::operators::binary_op;
+use crate::reader::Reader;
+use crate::sets::{goes_on, is_relational, op_at};
+use crate::types::type_at;
+use crate::{Bounds, Part};
+use bj_core::Span;
+use bj_grammar::{Stop, Symbol, Terminal, place, sees, word};
+use bj_tree::ExprTree;
+use sqlite_items::Boxed;
+use std::alloc::{AllocError, Global};
+
+/// A node of an operator with two operands.
+fn binary(
+    alloc: Global,
+    at: Span,
+    op: Terminal,
+    left: ExprTree,
+    right: ExprTree,
+) -> Result<ExprTree, AllocError>
+    ensures { IfOk result (λ tree. tree ≡ trees.Binary at (grammar.binary_op op) left right) }
+{
+    let left = Boxed::new(alloc, left)?;
+    let right = Boxed::new(alloc, right)?;
+    Ok(ExprTree::Binary {
+        at,
+        op: binary_op(op),
+        left,
+        right,
+    })
+}
+
+impl<
+    F: Fn(Global, &[Symbol], Bounds, usize, usize, Part) -> Result<(ExprTree, usize), Stop>,
+> Reader<F> {
+    /// `instanceof` and its type [JLS 15.20.2].
+    #[tactic(auto, unfolding(crate::specs::Reading::instance))]
+    pub(crate) fn instance(
+        &self,
+        tokens: &[Symbol],
+        start: usize,
+        value: ExprTree,
+        at: usize,
+    ) -> Result<(ExprTree, usize), Stop>
+        requires { Nests self.now.bounds self.now.depth (F.pre self.now.nested) (F.post self.now.nested) }
+        ensures { Gives result (over_nested spec.instance tokens.now self.now.bounds self.now.depth start value (text_of tokens.now) at) }
+    {
+        let at = word(tokens, at, Terminal::InstanceOf)?;
+        let (of, at) = type_at(self.alloc, tokens, self.bounds.most, at)?;
+        let tree = ExprTree::InstanceOf {
+            at: place(tokens, start),
+            value: Boxed::new(self.alloc, value)?,
+            of,
+        };
+        self.limited(tokens, tree, start, at)
+    }
+
+    /// An expression with operators of the lowest ranks, so many of them.
+    #[cycle(level)]
+    pub(crate) fn level(
+        &self,
+        tokens: &[Symbol],
+        start: usize,
+        rank: u8,
+    ) -> Result<(ExprTree, usize), Stop>
+        requires { Nests self.now.bounds self.now.depth (F.pre self.now.nested) (F.post self.now.nested) }
+        ensures { Gives result (over_nested spec.level tokens.now self.now.bounds self.now.depth rank (text_of tokens.now) start) }
+    {
+        if rank == 0 {
+            return self.unary(tokens, start);
+        }
+        let (left, at) = self.level(tokens, start, rank - 1)?;
+        self.operations(tokens, start, rank - 1, left, at)
+    }
+
+    /// An operator of the rank and its right operand, after a left one [JLS 15.17 to 15.24].
+    #[cycle(level)]
+    #[tactic(auto, unfolding(crate::specs::Reading::binary))]
+    pub(crate) fn binary(
+        &self,
+        tokens: &[Symbol],
+        start: usize,
+        rank: u8,
+        left: ExprTree,
+        at: usize,
+    ) -> Result<(ExprTree, usize), Stop>
+        requires { Nests self.now.bounds self.now.depth (F.pre self.now.nested) (F.post self.now.nested) }
+        ensures { Gives result (over_nested spec.binary tokens.now self.now.bounds self.now.depth (over_nested spec.level tokens.now self.now.bounds self.now.depth rank) rank start left (text_of tokens.now) at) }
+    {
+        let (op, at) = op_at(tokens, at, rank)?;
+        let (right, at) = self.level(tokens, at, rank)?;
+        let tree = binary(self.alloc, place(tokens, start), op, left, right)?;
+        self.limited(tokens, tree, start, at)
+    }
+
+    /// What goes on with an operator of the rank, after a left operand.
+    #[cycle(level)]
+    #[tactic(auto, unfolding(crate::specs::Reading::operation))]
+    pub(crate) fn operation(
+        &self,
+        tokens: &[Symbol],
+        start: usize,
+        rank: u8,
+        left: ExprTree,
+        at: usize,
+    ) -> Result<(ExprTree, usize), Stop>
+        requires { Nests self.now.bounds self.now.depth (F.pre self.now.nested) (F.post self.now.nested) }
+        ensures { Gives result (over_nested spec.operation tokens.now self.now.bounds self.now.depth (over_nested spec.level tokens.now self.now.bounds self.now.depth rank) rank start left (text_of tokens.now) at) }
+    {
+        if is_relational(rank) {
+            if sees(tokens, at, Terminal::InstanceOf) {
+                return self.instance(tokens, start, left, at);
+            }
+            return self.binary(tokens, start, rank, left, at);
+        }
+        self.binary(tokens, start, rank, left, at)
+    }
+
+    /// The operators of a rank, from the left.
+    #[cycle(level)]
+    pub(crate) fn operations(
+        &self,
+        tokens: &[Symbol],
+        start: usize,
+        rank: u8,
+        mut left: ExprTree,
+        mut at: usize,
+    ) -> Result<(ExprTree, usize), Stop>
+        requires { Nests self.now.bounds self.now.depth (F.pre self.now.nested) (F.post self.now.nested) }
+        ensures { Gives result (operations_of self.now.bounds self.now.depth tokens.now rank start left (text_of tokens.now) at) }
+    {
+        for _turn in 0..self.bounds.most {
+            if !goes_on(tokens, at, rank) {
+                return Ok((left, at));
+            }
+            (left, at) = self.operation(tokens, start, rank, left, at)?;
+        }
+        if goes_on(tokens, at, rank) {
+            return Err(Stop::Deep(start));
+        }
+        Ok((left, at))
+    }
+}

@@ -1,0 +1,14 @@
+/// The parts of an expression that others are nested in.
+#[derive(Clone, Copy, Debug, PartialEq, Eq)]
+pub enum Part {
+    /// A whole expression.
+    Expression,
+    /// A conditional expression, or one that binds tighter [JLS 15.25].
+    Conditional,
+    /// A unary expression [JLS 15.15].
+    Unary,
+    /// A unary expression that does not begin with `+`, `-`, `++` or `--` [JLS 15.15].
+    Plain,
+    /// What a variable is given: an expression, or values in braces [JLS 8.3, 10.6].
+    Initializer,
+}

@@ -1,0 +1,159 @@
+ghost use Rattle.std.specs.Prelude.{◌≡◌, IfOk};
+ghost use Rattle.bj_expr.specs.Reading as spec;
+ghost use Rattle.bj_grammar.specs.Given.{text_of, place_of, Gives};
+ghost use Rattle.bj_expr.specs.Given.{Nests, over_nested, selections_of};
+ghost use Rattle.bj_tree.specs.declared.expr.ExprTree.TheVariants as trees;
+
+use crate::forms::is_new_array;
+use crate::reader::Reader;
+use crate::sets::is_selector;
+use crate::{Bounds, Part};
+use bj_core::{JText, Span};
+use bj_grammar::{Stop, Symbol, Terminal, place, sees, units, word};
+use bj_tree::ExprTree;
+use sqlite_items::Boxed;
+use std::alloc::{AllocError, Global};
+
+/// A node of an element of an array.
+fn indexed(
+    alloc: Global,
+    at: Span,
+    array: ExprTree,
+    index: ExprTree,
+) -> Result<ExprTree, AllocError>
+    ensures { IfOk result (λ tree. tree ≡ trees.Index at array index) }
+{
+    let array = Boxed::new(alloc, array)?;
+    let index = Boxed::new(alloc, index)?;
+    Ok(ExprTree::Index { at, array, index })
+}
+
+impl<
+    F: Fn(Global, &[Symbol], Bounds, usize, usize, Part) -> Result<(ExprTree, usize), Stop>,
+> Reader<F> {
+    /// A field or a call, from behind its name on [JLS 15.11, 15.12].
+    #[tactic(auto, unfolding(crate::specs::Reading::member))]
+    pub(crate) fn member(
+        &self,
+        tokens: &[Symbol],
+        start: usize,
+        target: ExprTree,
+        name: JText,
+        at: usize,
+    ) -> Result<(ExprTree, usize), Stop>
+        requires { Nests self.now.bounds self.now.depth (F.pre self.now.nested) (F.post self.now.nested) }
+        ensures { Gives result (over_nested spec.member tokens.now self.now.bounds self.now.depth start target name (text_of tokens.now) at) }
+    {
+        if sees(tokens, at, Terminal::LeftParen) {
+            let (args, at) = self.arguments(tokens, at)?;
+            let tree = ExprTree::MethodCall {
+                at: place(tokens, start),
+                target: Boxed::new(self.alloc, target)?,
+                name,
+                args,
+            };
+            return self.limited(tokens, tree, start, at);
+        }
+        let tree = ExprTree::Field {
+            at: place(tokens, start),
+            target: Boxed::new(self.alloc, target)?,
+            name,
+        };
+        self.limited(tokens, tree, start, at)
+    }
+
+    /// An index in brackets [JLS 15.10.3].
+    #[tactic(auto, unfolding(crate::specs::Reading::element))]
+    pub(crate) fn element(
+        &self,
+        tokens: &[Symbol],
+        start: usize,
+        array: ExprTree,
+        at: usize,
+    ) -> Result<(ExprTree, usize), Stop>
+        requires { Nests self.now.bounds self.now.depth (F.pre self.now.nested) (F.post self.now.nested) }
+        ensures { Gives result (over_nested spec.element tokens.now self.now.bounds self.now.depth start array (text_of tokens.now) at) }
+    {
+        let at = word(tokens, at, Terminal::LeftBracket)?;
+        let (index, at) = self.nest(tokens, at, Part::Expression)?;
+        let at = word(tokens, at, Terminal::RightBracket)?;
+        let tree = indexed(self.alloc, place(tokens, start), array, index)?;
+        self.limited(tokens, tree, start, at)
+    }
+
+    /// A dot, and a field or a call.
+    #[tactic(auto, unfolding(crate::specs::Reading::dotted))]
+    pub(crate) fn dotted(
+        &self,
+        tokens: &[Symbol],
+        start: usize,
+        target: ExprTree,
+        at: usize,
+    ) -> Result<(ExprTree, usize), Stop>
+        requires { Nests self.now.bounds self.now.depth (F.pre self.now.nested) (F.post self.now.nested) }
+        ensures { Gives result (over_nested spec.dotted tokens.now self.now.bounds self.now.depth start target (text_of tokens.now) at) }
+    {
+        let name_at = word(tokens, at, Terminal::Dot)?;
+        let name = units(self.alloc, tokens, name_at)?;
+        let at = word(tokens, name_at, Terminal::Word)?;
+        self.member(tokens, start, target, name, at)
+    }
+
+    /// What is selected from a primary expression. The brackets behind a new array of given sizes are its own [JLS 15.10.1].
+    #[tactic(auto, unfolding(crate::specs::Reading::selection))]
+    pub(crate) fn selection(
+        &self,
+        tokens: &[Symbol],
+        start: usize,
+        target: ExprTree,
+        at: usize,
+    ) -> Result<(ExprTree, usize), Stop>
+        requires { Nests self.now.bounds self.now.depth (F.pre self.now.nested) (F.post self.now.nested) }
+        ensures { Gives result (over_nested spec.selection tokens.now self.now.bounds self.now.depth start target (text_of tokens.now) at) }
+    {
+        if is_new_array(&target) {
+            return self.dotted(tokens, start, target, at);
+        }
+        if sees(tokens, at, Terminal::LeftBracket) {
+            return self.element(tokens, start, target, at);
+        }
+        self.dotted(tokens, start, target, at)
+    }
+
+    /// All that is selected, from the left.
+    pub(crate) fn selections(
+        &self,
+        tokens: &[Symbol],
+        start: usize,
+        mut target: ExprTree,
+        mut at: usize,
+    ) -> Result<(ExprTree, usize), Stop>
+        requires { Nests self.now.bounds self.now.depth (F.pre self.now.nested) (F.post self.now.nested) }
+        ensures { Gives result (selections_of self.now.bounds self.now.depth tokens.now start target (text_of tokens.now) at) }
+    {
+        for _turn in 0..self.bounds.most {
+            if !is_selector(tokens, at) {
+                return Ok((target, at));
+            }
+            (target, at) = self.selection(tokens, start, target, at)?;
+        }
+        if is_selector(tokens, at) {
+            return Err(Stop::Deep(start));
+        }
+        Ok((target, at))
+    }
+
+    /// A primary expression and what is selected from it.
+    #[tactic(auto, unfolding(crate::specs::Reading::selected))]
+    pub(crate) fn selected(
+        &self,
+        tokens: &[Symbol],
+        start: usize,
+    ) -> Result<(ExprTree, usize), Stop>
+        requires { Nests self.now.bounds self.now.depth (F.pre self.now.nested) (F.post self.now.nested) }
+        ensures { Gives result (over_nested spec.selected tokens.now self.now.bounds self.now.depth (text_of tokens.now) start) }
+    {
+        let (first, at) = self.primary(tokens, start)?;
+        self.selections(tokens, start, first, at)
+    }
+}

@@ -1,0 +1,4 @@
+pub mod Terminals
+pub mod Laws
+pub mod LoopLemmas
+pub mod TextLemmas

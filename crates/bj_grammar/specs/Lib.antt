@@ -1,0 +1,3 @@
+pub mod Terminal
+pub mod Reader
+pub mod Given

@@ -1,0 +1,63 @@
+-- What a reader is, and the steps that every rule is made of.
+use Rattle.std.specs.Prelude.{ℕ, zero, suc, Bool, if◌then◌else◌, List}
+use Rattle.bj_lex.specs.declared.token.Token.{Token}
+use Rattle.bj_grammar.specs.declared.terminal.Terminal.{Terminal}
+use Rattle.bj_grammar.specs.Terminal.{terminal, same_terminal}
+
+-- the token at each place, with one that is no token at each place past the last
+abbrev pub Text : Type 0
+Text = ℕ → Token
+
+pub data Answer (A : Type 0) : Type 0 where
+  -- a tree, and the place after its last token
+  Found : A → ℕ → Answer A
+  -- the place of the first token with which nothing goes on
+  Wrong : ℕ → Answer A
+  -- the limit of depth is passed, and no token from this place on was looked at
+  Over : ℕ → Answer A
+
+abbrev pub Parser : Type 0 → Type 0
+Parser A = Text → ℕ → Answer A
+
+abbrev pub and_then : {A B : Type 0} → Answer A → (A → ℕ → Answer B) → Answer B
+and_then (Found a j) f = f a j
+and_then (Wrong k) f = Wrong k
+and_then (Over k) f = Over k
+
+infixl 10 ◌>>=◌
+abbrev pub ◌>>=◌ : {A B : Type 0} → Parser A → (A → Parser B) → Parser B
+p >>= f = λ s i. and_then (p s i) (λ a j. f a s j)
+
+abbrev pub pure : {A : Type 0} → A → Parser A
+pure a = λ s i. Found a i
+
+abbrev pub over : {A : Type 0} → Parser A
+over = λ s i. Over (suc (suc (suc (suc i))))
+
+-- a rule that is told where it begins
+abbrev pub here : {A : Type 0} → (ℕ → Parser A) → Parser A
+here f = λ s i. f i s i
+
+-- a token whose terminal passes the test, and then the rest, which is given the token
+abbrev pub operator : {A : Type 0} → (Terminal → Bool) → (Token → Parser A) → Parser A
+operator test q = λ s i. if test (terminal (s i)) then q (s i) s (suc i) else Wrong i
+
+-- a token of the terminal, and then the rest, which is given its units
+abbrev pub word : {A : Type 0} → Terminal → (List ℕ → Parser A) → Parser A
+word k q = λ s i. if same_terminal (terminal (s i)) k then q (s i).text s (suc i) else Wrong i
+
+abbrev pub sign : {A : Type 0} → Terminal → Parser A → Parser A
+sign k q = word k (λ _. q)
+
+-- by a test of the text from here on
+abbrev pub ahead : {A : Type 0} → (Text → ℕ → Bool) → Parser A → Parser A → Parser A
+ahead test p q = λ s i. if test s i then p s i else q s i
+
+-- by the next token
+abbrev pub choose : {A : Type 0} → (Terminal → Bool) → Parser A → Parser A → Parser A
+choose test p q = ahead (λ s i. test (terminal (s i))) p q
+
+-- goes on by steps while the next token passes the test, at most n times
+unfoldable pub loop : {A : Type 0} → ℕ → (Terminal → Bool) → (A → Parser A) → A → Parser A
+loop zero test step a = choose test over (pure a)
+loop (suc n) test step a = choose test (step a >>= loop n test step) (pure a)

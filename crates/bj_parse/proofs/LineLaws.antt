@@ -1,0 +1,197 @@
+-- A line is what one of the two readers finds, and its fault is the later of theirs.
+use Rattle.std.proofs.Common.{◌≡◌, ℕ, zero, suc, ◌+◌, ◌<◌, ◌≤◌, ◌⊎◌, inl, inr, Bool, true, false, Result, Ok, Err, IfOk, List, [], ◌∷◌, length, refl, sym, ap, ◌∙◌, subst, arith, le_refl}
+use Rattle.std.specs.Prelude.{max, min}
+use Rattle.std.proofs.lemmas.Bool.{cases_lt}
+use Rattle.bj_core.specs.declared.types.Span.{Span}
+use Rattle.bj_lex.specs.declared.token.Token.{Token}
+use Rattle.bj_tree.specs.declared.expr.ExprTree.{ExprTree}
+use Rattle.bj_tree.specs.declared.stmt.StmtTree.{StmtTree}
+use Rattle.bj_tree.specs.declared.line.LineTree.{LineTree}
+use Rattle.bj_tree.specs.declared.line.LineTree.TheVariants as lines
+use Rattle.bj_tree.specs.Size.{height_of}
+use Rattle.bj_grammar.specs.declared.terminal.Terminal.{Terminal}
+use Rattle.bj_grammar.specs.declared.terminal.Terminal.TheVariants as t
+use Rattle.bj_grammar.specs.Terminal.{same_terminal, among}
+use Rattle.bj_grammar.specs.Reader.{Text, Answer, Found, Over}
+use Rattle.bj_grammar.specs.Given.{text_of, place_of, IsOver}
+use Rattle.bj_grammar.proofs.Laws.{Laws, Rel}
+use Rattle.bj_expr.specs.declared.bounds.Bounds.{Bounds}
+use Rattle.bj_expr.specs.declared.part.Part.TheVariants as part
+use Rattle.bj_expr.specs.Grammar.{Expression}
+use Rattle.bj_expr.specs.Reading.{within}
+use Rattle.bj_expr.proofs.Facts.{closers}
+use Rattle.bj_expr.proofs.WithinLaws.{Follows, closer_follows, within_laws, within_low}
+use Rattle.bj_stmt.specs.Grammar.{SomeStatements}
+use Rattle.bj_stmt.specs.Reading.{statements_within}
+use Rattle.bj_stmt.proofs.GivenExpressions.{given}
+use Rattle.bj_stmt.proofs.NestedStmts.{some_laws}
+use Rattle.bj_parse.specs.Line.{most_nodes, line_height, line_bounds, IsExpression, AreStatements, IsShallow, IsLine, InGrammar, SameBefore, FirstFault, TooDeep, as_expression, as_statements, IsStuck, HighExpression, HighStatements, IsExpressionOutcome, IsStatementsOutcome}
+use Rattle.bj_parse.proofs.Whole as whole
+
+end_closes : among closers t.Other ≡ true
+unfolding same_terminal
+end_closes = refl
+
+module _ (tokens : List Token) where
+  abbrev ExprRel : Rel ExprTree
+  ExprRel = λ s a i j. Expression (place_of tokens) s a i j
+
+  abbrev StmtsRel : Rel (List StmtTree)
+  StmtsRel = λ s a i j. SomeStatements (place_of tokens) s a i j
+
+  abbrev AtEnd : List StmtTree → Terminal → Type 0
+  AtEnd b k = k ≡ t.Other
+
+  expr_laws : Laws (suc (length tokens)) (within (place_of tokens) (line_bounds tokens) part.Expression) ExprRel (Follows part.Expression) HighExpression
+  expr_laws = within_laws (place_of tokens) (line_bounds tokens) part.Expression
+
+  stmts_laws : Laws (suc (length tokens)) (statements_within (place_of tokens) (suc (length tokens)) most_nodes) StmtsRel AtEnd HighStatements
+  stmts_laws = some_laws (place_of tokens) (suc (length tokens)) (given (place_of tokens) (suc (length tokens))) most_nodes
+
+  expr_end : (a : ExprTree) → Follows part.Expression a t.Other
+  expr_end a = closer_follows part.Expression a t.Other end_closes
+
+  stmts_end : (b : List StmtTree) → AtEnd b t.Other
+  stmts_end b = refl
+
+  -- ---- the code's view of a reader
+
+  pub within_all : (a : ExprTree) (at : ℕ) → as_expression tokens ≡ Found a at → at ≤ length tokens
+  within_all a at e = whole.not_past _ ExprRel (Follows part.Expression) HighExpression tokens expr_laws expr_end a at e
+
+  pub statements_all : (b : List StmtTree) (at : ℕ) → as_statements tokens ≡ Found b at → at ≤ length tokens
+  statements_all b at e = whole.not_past _ StmtsRel AtEnd HighStatements tokens stmts_laws stmts_end b at e
+
+  pub low_expression : (a : ExprTree) (at : ℕ) → as_expression tokens ≡ Found a at → HighExpression a → ⊥
+  low_expression a at e high = let low = within_low (place_of tokens) (line_bounds tokens) part.Expression (text_of tokens) 0 a at e in absurd (omega arith)
+
+  -- ---- a line
+
+  high_no : (n : ℕ) → n ≤ most_nodes → most_nodes < n → ⊥
+  high_no n low high = absurd (omega arith)
+
+  not_high : (n : ℕ) → (most_nodes < n → ⊥) → n ≤ most_nodes
+  not_high n h = of (cases_lt most_nodes n)
+    where
+      of : (most_nodes < n) ⊎ (n ≤ most_nodes) → n ≤ most_nodes
+      of (inl y) = absurd (h y)
+      of (inr y) = y
+
+  pub expression_stands : (a : ExprTree) → as_expression tokens ≡ Found a (length tokens) → (HighExpression a → ⊥) → IsLine tokens (lines.Expr a)
+  expression_stands a e low = (whole.stands _ ExprRel (Follows part.Expression) HighExpression tokens expr_laws expr_end a e, not_high (height_of a) low)
+
+  -- no expression is read where the reader stops, or goes too deep
+  pub none_stuck : (k : ℕ) → IsStuck tokens (as_expression tokens) k → (a : ExprTree) → IsShallow tokens a → ⊥
+  none_stuck k stuck a d = whole.stuck_none _ ExprRel (Follows part.Expression) HighExpression tokens expr_laws expr_end k stuck a d.0
+
+  abbrev DeepExpression : Type 0
+  DeepExpression = IsOver (as_expression tokens) ⊎ ((a : ExprTree) × (as_expression tokens ≡ Found a (length tokens)) × HighExpression a)
+
+  abbrev DeepStatements : Type 0
+  DeepStatements = IsOver (as_statements tokens) ⊎ ((b : List StmtTree) × (as_statements tokens ≡ Found b (length tokens)) × HighStatements b)
+
+  deep_expression : DeepExpression → (a : ExprTree) → IsExpression tokens tokens a → HighExpression a
+  deep_expression deep a d = whole.each_is_high _ ExprRel (Follows part.Expression) HighExpression tokens expr_laws expr_end deep a d
+
+  deep_statements : DeepStatements → (b : List StmtTree) → AreStatements tokens tokens b → HighStatements b
+  deep_statements deep b d = whole.each_is_high _ StmtsRel AtEnd HighStatements tokens stmts_laws stmts_end deep b d
+
+  stuck_expression : (k : ℕ) → IsStuck tokens (as_expression tokens) k → (a : ExprTree) → IsExpression tokens tokens a → ⊥
+  stuck_expression k stuck a d = whole.stuck_none _ ExprRel (Follows part.Expression) HighExpression tokens expr_laws expr_end k stuck a d
+
+  stuck_statements : (k : ℕ) → IsStuck tokens (as_statements tokens) k → (b : List StmtTree) → AreStatements tokens tokens b → ⊥
+  stuck_statements k stuck b d = whole.stuck_none _ StmtsRel AtEnd HighStatements tokens stmts_laws stmts_end k stuck b d
+
+  pub none_deep : DeepExpression → (a : ExprTree) → IsShallow tokens a → ⊥
+  none_deep deep a d = high_no (height_of a) d.1 (deep_expression deep a d.0)
+
+  pub statements_stand : (b : List StmtTree) → as_statements tokens ≡ Found b (length tokens) → (HighStatements b → ⊥) → ((a : ExprTree) → IsShallow tokens a → ⊥) → IsLine tokens (lines.Stmts b)
+  statements_stand b e low none = (whole.stands _ StmtsRel AtEnd HighStatements tokens stmts_laws stmts_end b e, not_high (line_height b) low, none)
+
+  -- ---- the only line
+
+  pub expression_only : (a : ExprTree) → as_expression tokens ≡ Found a (length tokens) → (HighExpression a → ⊥) → (line : LineTree) → IsLine tokens line → lines.Expr a ≡ line
+  expression_only a e low (lines.Expr b) d = ap lines.Expr (whole.whole_is _ ExprRel (Follows part.Expression) HighExpression tokens expr_laws expr_end b a e d.0 (λ h. high_no (height_of b) d.1 h))
+  expression_only a e low (lines.Stmts b) d = absurd (d.2 a (expression_stands a e low))
+
+  pub statements_only : (b : List StmtTree) → as_statements tokens ≡ Found b (length tokens) → ((a : ExprTree) → IsShallow tokens a → ⊥) → (line : LineTree) → IsLine tokens line → lines.Stmts b ≡ line
+  statements_only b e none (lines.Expr a) d = absurd (none a d)
+  statements_only b e none (lines.Stmts c) d = ap lines.Stmts (whole.whole_is _ StmtsRel AtEnd HighStatements tokens stmts_laws stmts_end c b e d.0 (λ h. high_no (line_height c) d.1 h))
+
+  -- no line where both stop or go too deep
+  pub record NoLine : Type 0 where
+    pub expression : (a : ExprTree) → IsShallow tokens a → ⊥
+    pub statements : (b : List StmtTree) → AreStatements tokens tokens b → line_height b ≤ most_nodes → ⊥
+
+  pub no_line : NoLine → (line : LineTree) → IsLine tokens line → ⊥
+  no_line n (lines.Expr a) d = n.expression a d
+  no_line n (lines.Stmts b) d = n.statements b d.0 d.1
+
+  pub stuck_no_statements : (k : ℕ) → IsStuck tokens (as_statements tokens) k → (b : List StmtTree) → AreStatements tokens tokens b → line_height b ≤ most_nodes → ⊥
+  stuck_no_statements k stuck b d low = stuck_statements k stuck b d
+
+  pub deep_no_statements : DeepStatements → (b : List StmtTree) → AreStatements tokens tokens b → line_height b ≤ most_nodes → ⊥
+  deep_no_statements deep b d low = high_no (line_height b) low (deep_statements deep b d)
+
+  -- ---- the first fault
+
+  no_more_of : (k m at : ℕ) → k ≤ at → m ≤ at → IsStuck tokens (as_expression tokens) k → IsStuck tokens (as_statements tokens) m → (others : List Token) → SameBefore tokens others (suc at) → InGrammar tokens others → ⊥
+  no_more_of k m at le le2 x y others same (inl w) = whole.none_more _ ExprRel (Follows part.Expression) HighExpression tokens expr_laws expr_end k at le x others w.0 same w.1
+  no_more_of k m at le le2 x y others same (inr w) = whole.none_more _ StmtsRel AtEnd HighStatements tokens stmts_laws stmts_end m at le2 y others w.0 same w.1
+
+  begins_expression : (k : ℕ) → IsStuck tokens (as_expression tokens) k → (others : List Token) × (k ≤ length others) × SameBefore tokens others k × InGrammar tokens others
+  begins_expression k x = let w = whole.some_begin _ ExprRel (Follows part.Expression) HighExpression tokens expr_laws expr_end k x in (w.0, w.1, w.2, inl w.3)
+
+  begins_statements : (k : ℕ) → IsStuck tokens (as_statements tokens) k → (others : List Token) × (k ≤ length others) × SameBefore tokens others k × InGrammar tokens others
+  begins_statements k x = let w = whole.some_begin _ StmtsRel AtEnd HighStatements tokens stmts_laws stmts_end k x in (w.0, w.1, w.2, inr w.3)
+
+  pub first_by_expression : (k m : ℕ) → m ≤ k → IsStuck tokens (as_expression tokens) k → IsStuck tokens (as_statements tokens) m → FirstFault tokens k
+  first_by_expression k m le x y = record { begins = begins_expression k x; no_more = no_more_of k m k (le_refl k) le x y }
+
+  pub first_by_statements : (k m : ℕ) → k ≤ m → IsStuck tokens (as_expression tokens) k → IsStuck tokens (as_statements tokens) m → FirstFault tokens m
+  first_by_statements k m le x y = record { begins = begins_statements m y; no_more = no_more_of k m m le (le_refl m) x y }
+
+  -- ---- too deep
+
+  pub deep_both : DeepExpression → DeepStatements → TooDeep tokens
+  deep_both x y = record { expression = deep_expression x; statements = deep_statements y }
+
+  pub deep_first : DeepExpression → (m : ℕ) → IsStuck tokens (as_statements tokens) m → TooDeep tokens
+  deep_first x m y = record { expression = deep_expression x; statements = λ b d. absurd (stuck_statements m y b d) }
+
+  pub deep_second : (k : ℕ) → IsStuck tokens (as_expression tokens) k → DeepStatements → TooDeep tokens
+  deep_second k x y = record { expression = λ a d. absurd (stuck_expression k x a d); statements = deep_statements y }
+
+  -- ---- as the code reads them
+
+  pub whole_expression : (bounds : Bounds) (a : ExprTree) (at : ℕ) → bounds ≡ line_bounds tokens → within (place_of tokens) bounds part.Expression (text_of tokens) 0 ≡ Found a at → length tokens ≤ at
+      → (as_expression tokens ≡ Found a (length tokens)) × (HighExpression a → ⊥)
+  whole_expression bounds a at is e le =
+      let w : as_expression tokens ≡ Found a at = subst (λ (b : Bounds). within (place_of tokens) b part.Expression (text_of tokens) 0 ≡ Found a at) is e in
+      let end : at ≡ length tokens = (let h = within_all a at w in omega arith) in
+      (w ∙ ap (Found a) end, low_expression a at w)
+
+  pub whole_statements : (b : List StmtTree) (at h : ℕ) → as_statements tokens ≡ Found b at → length tokens ≤ at → h ≡ min (line_height b) 4294967295 → h ≤ most_nodes
+      → (as_statements tokens ≡ Found b (length tokens)) × (HighStatements b → ⊥)
+  whole_statements b at h e le eh low =
+      let end : at ≡ length tokens = (let w = statements_all b at e in omega arith) in
+      (e ∙ ap (Found b) end, (λ high. absurd (omega arith)))
+
+  pub high_statements : (b : List StmtTree) (at h : ℕ) → as_statements tokens ≡ Found b at → length tokens ≤ at → h ≡ min (line_height b) 4294967295 → most_nodes < h → DeepStatements
+  high_statements b at h e le eh high =
+      let end : at ≡ length tokens = (let w = statements_all b at e in omega arith) in
+      inr (b, e ∙ ap (Found b) end, (let z : most_nodes < line_height b = omega arith in z))
+
+  -- ---- a line has one tree
+
+  expression_found : (a : ExprTree) → IsShallow tokens a → as_expression tokens ≡ Found a (length tokens)
+  expression_found a d = whole.found _ ExprRel (Follows part.Expression) HighExpression tokens expr_laws expr_end a d.0 (λ h. high_no (height_of a) d.1 h)
+
+  statements_found : (b : List StmtTree) → AreStatements tokens tokens b → line_height b ≤ most_nodes → as_statements tokens ≡ Found b (length tokens)
+  statements_found b d low = whole.found _ StmtsRel AtEnd HighStatements tokens stmts_laws stmts_end b d (λ h. high_no (line_height b) low h)
+
+  pub one_line : (a b : LineTree) → IsLine tokens a → IsLine tokens b → a ≡ b
+  one_line (lines.Expr x) (lines.Expr y) d e = ap lines.Expr (whole.one_tree _ ExprRel (Follows part.Expression) HighExpression tokens expr_laws expr_end x y (expression_found x d) (expression_found y e))
+  one_line (lines.Expr x) (lines.Stmts y) d e = absurd (e.2 x d)
+  one_line (lines.Stmts x) (lines.Expr y) d e = absurd (d.2 y e)
+  one_line (lines.Stmts x) (lines.Stmts y) d e = ap lines.Stmts (whole.one_tree _ StmtsRel AtEnd HighStatements tokens stmts_laws stmts_end x y (statements_found x d.0 d.1) (statements_found y e.0 e.1))

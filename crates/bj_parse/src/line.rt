@@ -1,0 +1,213 @@
+ghost use Rattle.std.specs.Prelude.{◌≡◌, IfOk, max, min};
+ghost use Rattle.bj_tree.specs.declared.line.LineTree.{LineTree};
+ghost use Rattle.bj_grammar.specs.Reader.{Found};
+ghost use Rattle.bj_parse.specs.Line as spec;
+
+use crate::Outcome;
+use crate::faults::{fault, spot};
+use crate::left_out::code_at;
+use crate::symbols::symbols_of;
+use bj_core::{FaultCode, NoMemory, Refusal};
+use bj_expr::{Bounds, Part, part_at};
+use bj_grammar::{Stop, Symbol};
+use bj_lex::Tokens;
+use bj_stmt::{statements_at, stmt_height};
+use bj_tree::{ExprTree, LineTree, StmtTree, StmtTrees};
+use std::alloc::Global;
+
+/// How many nodes may stand on the way from the root of a tree to a node of it, both included.
+const MOST_NODES: u16 = 201;
+
+/// The same, as heights are told.
+const HIGHEST: u32 = 201;
+
+/// Lets a tree go. Its drop stands here alone, so that no caller's proof goes through it.
+fn let_expression_go(_tree: ExprTree) {}
+
+/// Lets trees go, like `let_expression_go`.
+fn let_statements_go(_trees: StmtTrees) {}
+
+/// How much reading a line may take: as many steps in a loop as there are tokens, and the end.
+fn line_bounds(tokens: &[Symbol]) -> Bounds
+    ensures { result ≡ spec.line_bounds tokens.now }
+{
+    Bounds {
+        most: tokens.len() + 1,
+        room: MOST_NODES,
+    }
+}
+
+/// What all tokens come to as an expression.
+///
+/// # Errors
+///
+/// `NoMemory` where there is no room for the tree.
+fn expression_outcome(alloc: Global, tokens: &[Symbol]) -> Result<Outcome<ExprTree>, NoMemory>
+    ensures { IfOk result (λ x. spec.IsExpressionOutcome tokens.now x) }
+{
+    match part_at(alloc, tokens, line_bounds(tokens), Part::Expression, 0) {
+        Ok((tree, at)) => {
+            if at < tokens.len() {
+                let_expression_go(tree);
+                return Ok(Outcome::Stuck(at));
+            }
+            Ok(Outcome::Whole(tree))
+        }
+        Err(Stop::Syntax(at)) => Ok(Outcome::Stuck(at)),
+        Err(Stop::Deep(at)) => Ok(Outcome::Deep(at)),
+        Err(Stop::Memory) => Err(NoMemory),
+    }
+}
+
+/// The greater of two.
+fn greater(a: u32, b: u32) -> u32
+    ensures { result ≡ max a b }
+{
+    if a < b { b } else { a }
+}
+
+/// The height of the highest of some statements, or 4294967295 where it is more.
+fn highest(trees: &[StmtTree]) -> u32
+    ensures { result ≡ min (spec.line_height trees.now) 4294967295 }
+{
+    let mut most = 0;
+    for tree in trees {
+        most = greater(most, stmt_height(tree));
+    }
+    most
+}
+
+/// What statements that were read from the beginning up to a place come to.
+fn statements_read(tokens: &[Symbol], trees: StmtTrees, at: usize) -> Outcome<StmtTrees>
+    requires { spec.as_statements tokens.now ≡ Found trees at }
+    ensures { spec.IsStatementsOutcome tokens.now result }
+{
+    if at < tokens.len() {
+        let_statements_go(trees);
+        return Outcome::Stuck(at);
+    }
+    if highest(trees.as_slice()) > HIGHEST {
+        let_statements_go(trees);
+        return Outcome::Deep(0);
+    }
+    Outcome::Whole(trees)
+}
+
+/// What all tokens come to as statements.
+///
+/// # Errors
+///
+/// `NoMemory` where there is no room for the trees.
+fn statements_outcome(alloc: Global, tokens: &[Symbol]) -> Result<Outcome<StmtTrees>, NoMemory>
+    ensures { IfOk result (λ x. spec.IsStatementsOutcome tokens.now x) }
+{
+    match statements_at(alloc, tokens, line_bounds(tokens), 0) {
+        Ok((trees, at)) => Ok(statements_read(tokens, trees, at)),
+        Err(Stop::Syntax(at)) => Ok(Outcome::Stuck(at)),
+        Err(Stop::Deep(at)) => Ok(Outcome::Deep(at)),
+        Err(Stop::Memory) => Err(NoMemory),
+    }
+}
+
+/// The line where the tokens are no expression, since reading one stops at a place.
+fn after_stuck(alloc: Global, tokens: &[Symbol], at: usize) -> Result<LineTree, Stop>
+    requires { spec.IsStuck tokens.now (spec.as_expression tokens.now) at }
+    ensures found { IfOk result (λ line. spec.IsLine tokens.now line) }
+    ensures only { (line : LineTree) → spec.IsLine tokens.now line → spec.StopsWith result line }
+    ensures fault { spec.StopsAt result tokens.now }
+{
+    match statements_outcome(alloc, tokens) {
+        Ok(Outcome::Whole(trees)) => Ok(LineTree::Stmts(trees)),
+        Ok(Outcome::Stuck(later)) => {
+            if at < later {
+                return Err(Stop::Syntax(later));
+            }
+            Err(Stop::Syntax(at))
+        }
+        Ok(Outcome::Deep(deep)) => Err(Stop::Deep(deep)),
+        Err(_) => Err(Stop::Memory),
+    }
+}
+
+/// The line where an expression goes too deep at a place.
+fn after_deep(alloc: Global, tokens: &[Symbol], at: usize) -> Result<LineTree, Stop>
+    requires { spec.GoesTooDeep tokens.now }
+    ensures found { IfOk result (λ line. spec.IsLine tokens.now line) }
+    ensures only { (line : LineTree) → spec.IsLine tokens.now line → spec.StopsWith result line }
+    ensures fault { spec.StopsAt result tokens.now }
+{
+    match statements_outcome(alloc, tokens) {
+        Ok(Outcome::Whole(trees)) => Ok(LineTree::Stmts(trees)),
+        Ok(Outcome::Stuck(_)) => Err(Stop::Deep(at)),
+        Ok(Outcome::Deep(_)) => Err(Stop::Deep(at)),
+        Err(_) => Err(Stop::Memory),
+    }
+}
+
+/// The line that all tokens are.
+fn line(alloc: Global, tokens: &[Symbol]) -> Result<LineTree, Stop>
+    ensures found { IfOk result (λ line. spec.IsLine tokens.now line) }
+    ensures only { (line : LineTree) → spec.IsLine tokens.now line → spec.StopsWith result line }
+    ensures fault { spec.StopsAt result tokens.now }
+{
+    match expression_outcome(alloc, tokens) {
+        Ok(Outcome::Whole(tree)) => Ok(LineTree::Expr(tree)),
+        Ok(Outcome::Stuck(at)) => after_stuck(alloc, tokens, at),
+        Ok(Outcome::Deep(at)) => after_deep(alloc, tokens, at),
+        Err(_) => Err(Stop::Memory),
+    }
+}
+
+/// The refusal for a place where reading stops.
+fn refused(alloc: Global, tokens: &Tokens, symbols: &[Symbol], stop: Stop) -> Refusal
+    requires { symbols.now ≡ tokens.now.items }
+    ensures { spec.IsRefusalOf tokens.now stop result }
+{
+    match stop {
+        Stop::Memory => Refusal::NoMemory,
+        Stop::Syntax(at) => fault(
+            alloc,
+            tokens,
+            spot(tokens, symbols, at),
+            code_at(symbols, at),
+        ),
+        Stop::Deep(at) => fault(alloc, tokens, spot(tokens, symbols, at), FaultCode::Deep),
+    }
+}
+
+/// The line that all tokens are, by their symbols.
+fn line_by(alloc: Global, tokens: &Tokens, symbols: &[Symbol]) -> Result<LineTree, Refusal>
+    requires { symbols.now ≡ tokens.now.items }
+    ensures found { IfOk result (λ line. spec.IsLine tokens.now.items line) }
+    ensures only { (line : LineTree) → spec.IsLine tokens.now.items line → spec.GivesLine result line }
+    ensures fault { spec.FaultAt result tokens.now }
+{
+    match line(alloc, symbols) {
+        Ok(tree) => Ok(tree),
+        Err(stop) => Err(refused(alloc, tokens, symbols, stop)),
+    }
+}
+
+/// The tree of a console line: an expression if all its tokens can be read as one, and else one statement or more [JLS 14, 15].
+///
+/// # Errors
+///
+/// - `Syntax` at the first token with which the tokens so far begin no line; the end counts as a token.
+/// - `Wide` in its place where that token is the least number of a type and stands behind no minus.
+/// - `Profile` in its place where that token begins type arguments, a resource of a `try`, a second type of a catch, or a class, which
+///   Java has there and the profile leaves out.
+/// - `Deep` where a node has more than 200 nodes above it.
+/// - `NoMemory` where there is no room for the tree.
+pub fn line_of(alloc: Global, tokens: &Tokens) -> Result<LineTree, Refusal>
+    // What is read is a line by the grammar, and not too deep.
+    ensures found { IfOk result (λ line. spec.IsLine tokens.now.items line) }
+    // What is a line by the grammar, and not too deep, is read as that tree.
+    ensures only { (line : LineTree) → spec.IsLine tokens.now.items line → spec.GivesLine result line }
+    // A fault is the first, or a node is too deep.
+    ensures fault { spec.FaultAt result tokens.now }
+{
+    match symbols_of(alloc, tokens.items.as_slice()) {
+        Ok(symbols) => line_by(alloc, tokens, symbols.as_slice()),
+        Err(_) => Err(Refusal::NoMemory),
+    }
+}

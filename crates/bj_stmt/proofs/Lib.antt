@@ -1,0 +1,14 @@
+pub mod Expressions
+pub mod StmtShape
+pub mod StmtTall
+pub mod Leftmost
+pub mod Small
+pub mod Begins
+pub mod Starts
+pub mod Ahead
+pub mod Rules
+pub mod ForRules
+pub mod StmtLaws
+pub mod NestedStmts
+pub mod GivenExpressions
+pub mod StmtCode
