@@ -7,6 +7,7 @@ pub mod TypeLaws
 pub mod ArgumentLaws
 pub mod ValueLaws
 pub mod SizeLaws
+pub mod SomeHeight
 pub mod CreationLaws
 pub mod PrimaryLaws
 pub mod SelectionLaws

@@ -16,6 +16,7 @@ use Rattle.bj_grammar.proofs.Terminals.{make, made}
 use Rattle.bj_grammar.proofs.Laws.{Rel, Shape, Completes, Laws, over_laws, put, put_here, put_before}
 use Rattle.bj_expr.proofs.ExprShape.{expression_forward, expression_frame, conditional_forward, conditional_frame, unary_forward, unary_frame, plain_forward, plain_frame, initializer_forward, initializer_frame}
 use Rattle.bj_expr.proofs.LawLemmas.{Tall, PartRel, AfterPart}
+use Rattle.bj_expr.proofs.SomeHeight.{some_height}
 use Rattle.bj_expr.proofs.UnaryFacts.{unary_conditional, name_unary, name_expression}
 use Rattle.bj_expr.proofs.UnaryLaws.{unary_laws, plain_laws}
 use Rattle.bj_expr.proofs.ExpressionLaws.{conditional_laws, expression_laws, initializer_laws}
@@ -69,7 +70,8 @@ module _ (place : ℕ → Span) where
     some = λ s i. named (PartRel place part.Initializer) s i (g.expression (name_expression place (put s i (make t.Word)) i (name_some s i)));
   }
 
-  pub nested_laws : (bounds : Bounds) (n : ℕ) → n ≤ suc bounds.room → (x : Part) → Laws bounds.most (r.nested place bounds n x) (PartRel place x) (AfterPart x) (Tall n)
+  -- where parts nest no deeper than a number, what is not read has more nodes than that on some way down
+  pub nested_laws : (bounds : Bounds) (n : ℕ) → n ≤ bounds.room → (x : Part) → Laws bounds.most (r.nested place bounds n x) (PartRel place x) (AfterPart x) (Tall (suc n))
   unfolding r.nested
-  nested_laws bounds zero le x = over_laws bounds.most (PartRel place x) (AfterPart x) (Tall 0) (part_shape x) (λ s a i j d. inl (omega arith))
-  nested_laws bounds (suc n) le x = rule_laws place bounds n (omega arith) (r.nested place bounds n) (λ y. nested_laws bounds n (omega arith) y) x
+  nested_laws bounds zero le x = over_laws bounds.most (PartRel place x) (AfterPart x) (Tall 1) (part_shape x) (λ s a i j d. inl (some_height a))
+  nested_laws bounds (suc n) le x = rule_laws place bounds (suc n) le (r.nested place bounds n) (λ y. nested_laws bounds n (omega arith) y) x

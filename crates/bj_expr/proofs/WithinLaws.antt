@@ -1,5 +1,5 @@
 -- The parts as the layers above read them, and what may follow each.
-use Rattle.std.proofs.Common.{◌≡◌, ℕ, suc, ◌<◌, ◌≤◌, Bool, true, false, cond, refl, sym, subst, arith, le_refl}
+use Rattle.std.proofs.Common.{◌≡◌, ℕ, suc, ◌-◌, ◌<◌, ◌≤◌, Bool, true, false, cond, refl, sym, subst, arith, le_refl}
 use Rattle.std.specs.Prelude.{nat_lt}
 use Rattle.std.proofs.lemmas.Bool.{ltb-false}
 use Rattle.bj_core.specs.declared.types.Span.{Span}
@@ -62,7 +62,7 @@ module _ (place : ℕ → Span) where
     unfolding within
     within_laws = renamed (λ s a i j. Stands x place s a i j) (Follows x)
         (taller (λ a. bounds.room < height_of a)
-        (seq (rule_laws place bounds bounds.room (le_refl bounds.room) (r.nested place bounds bounds.room) (λ y. nested_laws place bounds bounds.room (omega arith) y) x)
+        (seq (rule_laws place bounds bounds.room (le_refl bounds.room) (r.nested place bounds (bounds.room - 1)) (λ y. taller (Tall bounds.room) (nested_laws place bounds (bounds.room - 1) (omega arith) y) (λ a h. omega arith)) x)
         (λ b. limited_laws bounds.most bounds.room bounds.room (le_refl bounds.room) b (AfterPart x))
         (λ s a m b j d last. follows_first s a m b j d last) (λ s a m b j d h. subst (λ (z : ExprTree). Tall (suc bounds.room) z) (sym d.tree) h))
         (λ a h. omega arith))
@@ -79,4 +79,4 @@ module _ (place : ℕ → Span) where
     -- what is read is no higher than there is room
     pub within_low : (s : Text) (i : ℕ) (a : ExprTree) (j : ℕ) → within place bounds x s i ≡ Found a j → height_of a ≤ bounds.room
     unfolding within
-    within_low s i a j e = let w = and_then_found (r.rule place bounds (r.nested place bounds bounds.room) x s i) (λ b m. limited bounds.room b s m) a j e in limited_low w.0 s w.1 a j w.3
+    within_low s i a j e = let w = and_then_found (r.rule place bounds (r.nested place bounds (bounds.room - 1)) x s i) (λ b m. limited bounds.room b s m) a j e in limited_low w.0 s w.1 a j w.3

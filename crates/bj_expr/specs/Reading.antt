@@ -1,5 +1,5 @@
 -- The reader of expressions, as a function on texts.
-use Rattle.std.specs.Prelude.{ℕ, zero, suc, Bool, true, false, ◌&&◌, ◌||◌, if◌then◌else◌, nat_lt, List, [], ◌∷◌, ◌++◌}
+use Rattle.std.specs.Prelude.{ℕ, zero, suc, ◌-◌, Bool, true, false, ◌&&◌, ◌||◌, if◌then◌else◌, nat_lt, List, [], ◌∷◌, ◌++◌}
 use Rattle.bj_core.specs.declared.types.Span.{Span}
 use Rattle.bj_tree.specs.declared.types.TypeTree.{TypeTree}
 use Rattle.bj_tree.specs.declared.expr.UnaryOp.TheVariants as unaries
@@ -242,6 +242,6 @@ unfoldable pub nested : (ℕ → Span) → Bounds → ℕ → Part → Parser Ex
 nested place bounds zero x = over
 nested place bounds (suc n) x = rule place bounds (nested place bounds n) x
 
--- a part that is no higher than there is room
+-- A part that is no higher than there is room. It is a node itself, so there is room for one less in it.
 unfoldable pub within : (ℕ → Span) → Bounds → Part → Parser ExprTree
-within place bounds x = rule place bounds (nested place bounds bounds.room) x >>= limited bounds.room
+within place bounds x = rule place bounds (nested place bounds (bounds.room - 1)) x >>= limited bounds.room

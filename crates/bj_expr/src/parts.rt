@@ -55,7 +55,7 @@ pub fn part_at(
     let reader = Reader {
         alloc,
         bounds,
-        depth: usize::from(bounds.room),
+        depth: usize::from(bounds.room).saturating_sub(1),
         nested,
     };
     let (tree, end) = reader.rule(tokens, at, part)?;

@@ -12,7 +12,7 @@ pub acts_line : (o : Opening) (line text : List ℕ) (s : After) → (after_line
 acts_line o line text s =
     line_case (λ (t : After). t.world.acts ≡ s.world.acts) o line text s refl
     (of_line (λ (x : LineOutcome). (started x.term s.world).acts ≡ s.world.acts) o line s
-    (record { text = λ text. refl; opened = refl; started = λ term free binds. refl; bound = λ name e free untaken. refl }))
+    (record { text = λ text. refl; read = λ form text. refl; opened = refl; started = λ term free binds. refl; bound = λ name e free untaken. refl }))
 
 -- a legal history has no more actions than the limit
 pub few_acts : (o : Opening) (log : List Entry) → Legal o log → (after o log).world.acts ≤ o.limits.acts

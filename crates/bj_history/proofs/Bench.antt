@@ -117,6 +117,7 @@ bench_line o line text s bench =
     line_case (λ (t : After). IsBench (bound_by t.world.main) t.names) o line text s bench
     (of_line (λ (x : LineOutcome). IsBench (bound_by (started x.term s.world).main) s.names) o line s (record {
       text = λ text. bench;
+      read = λ form text. bench;
       opened = bench;
       started = λ term free none. subst (λ (name : Option (List ℕ)). IsBench name s.names) (sym none) (unbinding bench);
       bound = λ name e free untaken. record { apart = bench.apart; few = bench.few; room = untaken_room (value_in s.names name) (length s.names) untaken };

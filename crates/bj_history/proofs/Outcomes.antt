@@ -7,7 +7,7 @@ use Rattle.bj_command.specs.Words.{form_in, is_quit}
 use Rattle.bj_command.proofs.Quits.{quit_in}
 use Rattle.bj_history.specs.declared.opening.Opening.{Opening}
 use Rattle.bj_history.specs.declared.opening.Wait.TheVariants.{Silent}
-use Rattle.bj_history.specs.Replies.{After, LineOutcome, says, no_memory, outcome_of}
+use Rattle.bj_history.specs.Replies.{After, Answers, LineOutcome, says, no_memory, outcome_of}
 use Rattle.bj_history.specs.History.{loaded, line_outcome, after_outcome, after_line}
 use Rattle.bj_history.proofs.Lines.{OfEach, if_case, of_form, quit_says}
 
@@ -23,7 +23,7 @@ line_case P o line text s before behind = if_case P (bytes_eq text no_memory) s 
 pub never_silent : (o : Opening) (line : List ℕ) (s : After) → (line_outcome o line s).wait ≡ Some Silent → ⊥
 never_silent o line s =
     of_line (λ (x : LineOutcome). x.wait ≡ Some Silent → ⊥) o line s
-    (record { text = λ text e. cc; opened = λ e. cc; started = λ term free binds e. cc; bound = λ name t free untaken e. cc })
+    (record { text = λ text e. cc; read = λ form text e. cc; opened = λ e. cc; started = λ term free binds e. cc; bound = λ name t free untaken e. cc })
 
 -- `quit` is replied nothing
 pub quit_outcome : (o : Opening) (line : List ℕ) (s : After) → is_quit line ≡ true → line_outcome o line s ≡ says []
@@ -38,10 +38,16 @@ same_if true s = refl
 same_if false s = refl
 
 -- a line with the reply of what it comes to leaves what it comes to
-pub line_replied : (o : Opening) (line : List ℕ) (s : After) → after_line o line (line_outcome o line s).reply s ≡ after_outcome (line_outcome o line s) s
-line_replied o line s =
-    of_line (λ (x : LineOutcome). (if bytes_eq x.reply no_memory then s else after_outcome x s) ≡ after_outcome x s) o line s
-    (record { text = λ text. same_if (bytes_eq text no_memory) s; opened = refl; started = λ term free binds. refl; bound = λ name e free untaken. refl })
+pub line_replied : (o : Opening) (line text : List ℕ) (s : After) → Answers (line_outcome o line s).reply text → after_line o line text s ≡ after_outcome (line_outcome o line s) s
+line_replied o line text s =
+    of_line (λ (x : LineOutcome). Answers x.reply text → (if bytes_eq text no_memory then s else after_outcome x s) ≡ after_outcome x s) o line s
+    (record {
+      text = λ said is. same_if (bytes_eq text no_memory) s;
+      read = λ form java is. same_if (bytes_eq text no_memory) s;
+      opened = λ is. rw is refl;
+      started = λ term free binds is. rw is refl;
+      bound = λ name e free untaken is. rw is refl;
+    })
 
 -- a line that wanted memory leaves all as it was
 pub line_wanting : (o : Opening) (line : List ℕ) (s : After) → after_line o line no_memory s ≡ s

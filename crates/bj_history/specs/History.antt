@@ -16,7 +16,7 @@ use Rattle.bj_history.specs.declared.opening.Wait.TheVariants.{Silent}
 use Rattle.bj_command.specs.Words.{form_in, is_quit, takes_memory}
 use Rattle.bj_machine.specs.World.{Setting, World, opened, next_action, is_enabled, acted, begun, MayAct}
 use Rattle.bj_history.specs.Names.{bound_by, names_after}
-use Rattle.bj_history.specs.Replies.{After, LineOutcome, no_memory, outcome_of}
+use Rattle.bj_history.specs.Replies.{After, Answers, LineOutcome, no_memory, outcome_of}
 use Rattle.bj_history.specs.Events.{act_event, woke_event, written_line}
 pub use Rattle.bj_history.specs.Replies.{After}
 
@@ -36,7 +36,7 @@ line_outcome o line s = outcome_of loaded (form_in o.pad line) s
 
 -- the reply is that of the line, or want of memory where memory is taken
 abbrev pub IsReply : Opening → After → List ℕ → List ℕ → Type 0
-IsReply o s line text = (text ≡ (line_outcome o line s).reply) ⊎ ((takes_memory (form_in o.pad line) ≡ true) × (text ≡ no_memory))
+IsReply o s line text = Answers (line_outcome o line s).reply text ⊎ ((takes_memory (form_in o.pad line) ≡ true) × (text ≡ no_memory))
 
 abbrev pub started : Option Term → World → World
 started None w = w

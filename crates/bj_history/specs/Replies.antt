@@ -1,5 +1,5 @@
 -- What a line comes to: what is replied, the term that begins, and the wait that opens.
-use Rattle.std.specs.Prelude.{ℕ, ◌==◌, is_some, if◌then◌else◌, List, [], ◌∷◌, ◌++◌, Option, Some, None, Result, Ok, Err, codes, decimal}
+use Rattle.std.specs.Prelude.{ℕ, ◌≡◌, ◌==◌, is_some, if◌then◌else◌, List, [], ◌∷◌, ◌++◌, Option, Some, None, Result, Ok, Err, codes, decimal}
 use Rattle.bj_core.specs.declared.frame.Local.{Local}
 use Rattle.bj_core.specs.declared.frame.Term.{Term}
 use Rattle.bj_core.specs.declared.frame.TermKind.TheVariants as kind
@@ -15,6 +15,9 @@ use Rattle.bj_command.specs.declared.command.Command.{Command}
 use Rattle.bj_command.specs.declared.command.Command.TheVariants.{Blank, Pad, New, Call, Inspect, Wait, Unbuilt, Quit}
 use Rattle.bj_command.specs.declared.command.LineFault.{LineFault}
 use Rattle.bj_command.specs.declared.command.LineFault.TheVariants.{BadLine, NoMemory}
+use Rattle.bj_reading.specs.declared.text.JavaText.{JavaText}
+use Rattle.bj_reading.specs.declared.text.JavaText.TheVariants as java
+use Rattle.bj_reading.specs.Reply.{IsReadingReply}
 use Rattle.bj_sum.specs.declared.cells.CellCall.{CellCall}
 use Rattle.bj_sum.specs.declared.cells.CellCall.TheVariants.{Add, Get}
 use Rattle.bj_sum.specs.Cells.{creation_of, call_of}
@@ -34,20 +37,34 @@ pub record After : Type 0 where
   pub wait : Option Waiting
   pub names : List BoundName
 
+-- what is replied: a text, or what reading the line's Java text comes to
+pub data Saying : Type 0 where
+  Says : List ℕ → Saying
+  Reads : JavaText → List ℕ → Saying
+
+-- a text is such a reply; where a text of Java nests too deep, more than one is
+abbrev pub Answers : Saying → List ℕ → Type 0
+Answers (Says text) reply = reply ≡ text
+Answers (Reads form text) reply = IsReadingReply form text reply
+
 -- what a line comes to
 pub record LineOutcome : Type 0 where
-  pub reply : List ℕ
+  pub reply : Saying
   pub term : Option Term
   pub wait : Option Waiting
 
 abbrev pub says : List ℕ → LineOutcome
-says text = record { reply = text; term = None; wait = None }
+says text = record { reply = Says text; term = None; wait = None }
+
+-- the Java text is read, and nothing begins
+abbrev pub reads : JavaText → List ℕ → LineOutcome
+reads form text = record { reply = Reads form text; term = None; wait = None }
 
 abbrev pub starts : Term → LineOutcome
-starts term = record { reply = codes "= started"; term = Some term; wait = None }
+starts term = record { reply = Says (codes "= started"); term = Some term; wait = None }
 
 abbrev pub opens : Waiting → LineOutcome
-opens wait = record { reply = []; term = None; wait = Some wait }
+opens wait = record { reply = Says []; term = None; wait = Some wait }
 
 abbrev pub not_built : LineOutcome
 not_built = says (codes "= not built")
@@ -83,19 +100,24 @@ call_term call object = record { kind = kind.Call; body = call_body call; scope 
 abbrev pub if_free : World → LineOutcome → LineOutcome
 if_free w go = if is_some w.main then says (codes "= busy") else go
 
-abbrev pub pad_outcome : Option Expr → After → LineOutcome
-pad_outcome None s = not_built
-pad_outcome (Some e) s = if_free s.world (starts (pad_term e))
+-- a text that is no sum is read, and is not built
+abbrev pub pad_outcome : Option Expr → List ℕ → After → LineOutcome
+pad_outcome None text s = if_free s.world (reads java.Line text)
+pad_outcome (Some e) text s = if_free s.world (starts (pad_term e))
 
 abbrev pub if_untaken : List BoundName → List ℕ → LineOutcome → LineOutcome
 if_untaken names name go = if is_taken names name then says (codes "= taken " ++ name) else go
 
-abbrev pub creation_outcome : Option Expr → List ℕ → After → LineOutcome
-creation_outcome None name s = not_built
-creation_outcome (Some e) name s = if_free s.world (if_untaken s.names name (starts (new_term name e)))
+-- a creation of a Cell begins; another text is read, and is not built
+abbrev pub creation_begins : Option Expr → List ℕ → List ℕ → LineOutcome
+creation_begins None name text = reads java.Creation text
+creation_begins (Some e) name text = starts (new_term name e)
+
+abbrev pub creation_outcome : Option Expr → List ℕ → List ℕ → After → LineOutcome
+creation_outcome e name text s = if_free s.world (if_untaken s.names name (creation_begins e name text))
 
 abbrev pub new_outcome : Program → List ℕ → List ℕ → After → LineOutcome
-new_outcome program name text s = if is_plain program name then creation_outcome (creation_of text) name s else not_built
+new_outcome program name text s = if is_plain program name then creation_outcome (creation_of text) name text s else not_built
 
 -- an object of `Cell`
 abbrev pub cell_in : Option Val → Option Val
@@ -107,9 +129,13 @@ called_outcome call None s = not_built
 called_outcome call (Some object) s = if_free s.world (starts (call_term call object))
 
 -- a call of a name that stands for an object of `Cell`
-abbrev pub call_outcome : Option CellCall → After → LineOutcome
-call_outcome None s = not_built
-call_outcome (Some call) s = called_outcome call (cell_in (value_in s.names (call_name call))) s
+abbrev pub cell_call_outcome : CellCall → After → LineOutcome
+cell_call_outcome call s = called_outcome call (cell_in (value_in s.names (call_name call))) s
+
+-- a text that is no call of `add` or `get` is read, and is not built
+abbrev pub call_outcome : Option CellCall → List ℕ → After → LineOutcome
+call_outcome None text s = if_free s.world (reads java.Call text)
+call_outcome (Some call) text s = cell_call_outcome call s
 
 abbrev pub inspected : Program → State → List ℕ → Option Val → LineOutcome
 inspected program s name None = says (codes "= unknown " ++ name)
@@ -124,9 +150,9 @@ no_memory = codes "= no memory"
 -- what a line of a form comes to, over the program that is loaded
 unfoldable pub outcome_of : Program → Result Command LineFault → After → LineOutcome
 outcome_of program (Ok Blank) s = says []
-outcome_of program (Ok (Pad text)) s = pad_outcome (sum_of text) s
+outcome_of program (Ok (Pad text)) s = pad_outcome (sum_of text) text s
 outcome_of program (Ok (New name text)) s = new_outcome program name text s
-outcome_of program (Ok (Call text)) s = call_outcome (call_of text) s
+outcome_of program (Ok (Call text)) s = call_outcome (call_of text) text s
 outcome_of program (Ok (Inspect name)) s = inspect_outcome program name s
 outcome_of program (Ok Wait) s = opens Told
 outcome_of program (Ok Unbuilt) s = not_built

@@ -1,1 +1,4 @@
 pub mod Line
+pub mod Checked
+pub mod Parts
+pub mod Class

@@ -1,9 +1,10 @@
-ghost use Rattle.std.specs.Prelude.{◌≡◌, IfOk, max, min};
+ghost use Rattle.std.specs.Prelude.{◌≡◌, IfOk, min};
 ghost use Rattle.bj_tree.specs.declared.line.LineTree.{LineTree};
 ghost use Rattle.bj_grammar.specs.Reader.{Found};
 ghost use Rattle.bj_parse.specs.Line as spec;
 
 use crate::Outcome;
+use crate::depth::{HIGHEST, MOST_NODES, greater};
 use crate::faults::{fault, spot};
 use crate::left_out::code_at;
 use crate::symbols::symbols_of;
@@ -14,12 +15,6 @@ use bj_lex::Tokens;
 use bj_stmt::{statements_at, stmt_height};
 use bj_tree::{ExprTree, LineTree, StmtTree, StmtTrees};
 use std::alloc::Global;
-
-/// How many nodes may stand on the way from the root of a tree to a node of it, both included.
-const MOST_NODES: u16 = 201;
-
-/// The same, as heights are told.
-const HIGHEST: u32 = 201;
 
 /// Lets a tree go. Its drop stands here alone, so that no caller's proof goes through it.
 fn let_expression_go(_tree: ExprTree) {}
@@ -57,13 +52,6 @@ fn expression_outcome(alloc: Global, tokens: &[Symbol]) -> Result<Outcome<ExprTr
         Err(Stop::Deep(at)) => Ok(Outcome::Deep(at)),
         Err(Stop::Memory) => Err(NoMemory),
     }
-}
-
-/// The greater of two.
-fn greater(a: u32, b: u32) -> u32
-    ensures { result ≡ max a b }
-{
-    if a < b { b } else { a }
 }
 
 /// The height of the highest of some statements, or 4294967295 where it is more.

@@ -17,18 +17,8 @@ enum Answer {
     Statements(usize),
     /// Nothing, with its first fault.
     Fault(FaultCode, Span),
-    /// Nothing, since a node has too many above it.
-    TooDeep,
     /// Nothing, for want of memory.
     NoMemory,
-}
-
-/// What a fault is compared as: the place of one that is too deep is not told by the contract.
-fn refused(code: FaultCode, at: Span) -> Answer {
-    if code == FaultCode::Deep {
-        return Answer::TooDeep;
-    }
-    Answer::Fault(code, at)
 }
 
 /// What some tokens are read as.
@@ -36,7 +26,7 @@ fn answer_of(alloc: Global, tokens: &Tokens) -> Answer {
     match line_of(alloc, tokens) {
         Ok(LineTree::Expr(_)) => Answer::Expression,
         Ok(LineTree::Stmts(trees)) => Answer::Statements(trees.as_slice().len()),
-        Err(Refusal::Fault(fault)) => refused(fault.code, fault.at),
+        Err(Refusal::Fault(fault)) => Answer::Fault(fault.code, fault.at),
         Err(Refusal::NoMemory) => Answer::NoMemory,
     }
 }
@@ -296,7 +286,13 @@ const LINES: &[(&str, Answer)] = &[
     ),
     (
         "(((((((((((((((((((((((((((((((((((((((((((((((((((((((((((((((((((((((((((((((((((((((((((((((((((((((((((((((((((((((((((((((((((((((((((((((((((((((((((((((((((((((((((((((((((((((((((((((((((((((((1)))))))))))))))))))))))))))))))))))))))))))))))))))))))))))))))))))))))))))))))))))))))))))))))))))))))))))))))))))))))))))))))))))))))))))))))))))))))))))))))))))))))))))))))))))))))))))))))))))))))))",
-        Answer::TooDeep,
+        Answer::Fault(
+            FaultCode::Deep,
+            Span {
+                line: 1,
+                column: 202,
+            },
+        ),
     ),
 ];
 

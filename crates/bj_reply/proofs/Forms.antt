@@ -21,7 +21,7 @@ use Rattle.bj_history.specs.declared.names.BoundName.{BoundName}
 use Rattle.bj_history.specs.declared.opening.Wait.TheVariants.{Told}
 use Rattle.bj_history.specs.Names.{value_in, is_taken, is_plain}
 use Rattle.bj_history.specs.Views.{inspection}
-use Rattle.bj_history.specs.Replies.{After, LineOutcome, cell_in, called_outcome, says, opens, not_built, if_free, pad_outcome, creation_outcome, new_outcome, call_name, call_outcome, inspected, inspect_outcome, outcome_of}
+use Rattle.bj_history.specs.Replies.{After, LineOutcome, cell_in, called_outcome, says, opens, not_built, if_free, pad_outcome, creation_begins, creation_outcome, new_outcome, call_name, call_outcome, cell_call_outcome, inspected, inspect_outcome, outcome_of}
 use Rattle.bj_reply.specs.declared.asking.Asked.{Asked}
 use Rattle.bj_reply.specs.Asking.{IsAsked, IsFor, IsForAny}
 
@@ -31,7 +31,7 @@ pub of_blank : (p : Program) (x : Command) (s : After) → x ≡ command.Blank �
 unfolding outcome_of
 of_blank p x s is = rw is refl
 
-pub of_pad : (p : Program) (text slice : List ℕ) (x : Command) (s : After) → x ≡ command.Pad text → slice ≡ text → pad_outcome (sum_of slice) s ≡ outcome_of p (Ok x) s
+pub of_pad : (p : Program) (text slice : List ℕ) (x : Command) (s : After) → x ≡ command.Pad text → slice ≡ text → pad_outcome (sum_of slice) slice s ≡ outcome_of p (Ok x) s
 unfolding outcome_of
 of_pad p text slice x s is same = rw (is, same) refl
 
@@ -40,7 +40,7 @@ pub of_new : (p : Program) (name text called slice : List ℕ) (x : Command) (s 
 unfolding outcome_of
 of_new p name text called slice x s is named same = rw (is, named, same) refl
 
-pub of_call : (p : Program) (text slice : List ℕ) (x : Command) (s : After) → x ≡ command.Call text → slice ≡ text → call_outcome (call_of slice) s ≡ outcome_of p (Ok x) s
+pub of_call : (p : Program) (text slice : List ℕ) (x : Command) (s : After) → x ≡ command.Call text → slice ≡ text → call_outcome (call_of slice) slice s ≡ outcome_of p (Ok x) s
 unfolding outcome_of
 of_call p text slice x s is same = rw (is, same) refl
 
@@ -101,20 +101,43 @@ pub for_same : {E : Type 0} (r : Result Asked E) (m : Shown) (names : List Bound
 for_same (Ok asked) m names x y same is = λ s stands named. asked_from m _ _ asked (same s) (is s stands named)
 for_same (Err fault) m names x y same is = tt
 
+pub any_same : {E : Type 0} (r : Result Asked E) (m : Shown) (x y : After → LineOutcome) → ((s : After) → x s ≡ y s)
+    → IfOk r (IsForAny m x) → IfOk r (IsForAny m y)
+any_same (Ok asked) m x y same is = λ s stands. asked_from m _ _ asked (same s) (is s stands)
+any_same (Err fault) m x y same is = tt
+
+-- what answers one outcome over any machine answers one that equals it over this one
+pub known_from : {E : Type 0} (r : Result Asked E) (m : Shown) (x y : LineOutcome) → x ≡ y → IfOk r (λ asked. (m : Shown) → IsAsked m x asked) → IfOk r (IsAsked m y)
+known_from (Ok asked) m x y same is = asked_from m _ _ asked same (is m)
+known_from (Err fault) m x y same is = tt
+
+-- what answers one outcome over this machine answers each that the line comes to
+pub for_known : {E : Type 0} (r : Result Asked E) (m : Shown) (names : List BoundName) (x : LineOutcome) (outcome : After → LineOutcome)
+    → IfOk r (λ asked. IsAsked m x asked) → ((s : After) → Stands m s.world → names ≡ s.names → x ≡ outcome s) → IfOk r (IsFor m names outcome)
+for_known (Ok asked) m names x outcome is same = λ s stands named. asked_from m _ _ asked (same s stands named) is
+for_known (Err fault) m names x outcome is same = tt
+
 -- THE CASES OF EACH OUTCOME
 
 pub when_busy : (w : World) (go : LineOutcome) → is_some w.main ≡ true → says (codes "= busy") ≡ if_free w go
 when_busy w go busy = rw busy refl
 
-pub when_taken : (e : Expr) (name : List ℕ) (s : After) → is_some s.world.main ≡ false → is_taken s.names name ≡ true
-    → says (codes "= taken " ++ name) ≡ creation_outcome (Some e) name s
-when_taken e name s free taken = rw (free, taken) refl
+pub when_free : (w : World) (go : LineOutcome) → is_some w.main ≡ false → go ≡ if_free w go
+when_free w go free = rw free refl
+
+pub when_taken : (e : Option Expr) (name text : List ℕ) (s : After) → is_some s.world.main ≡ false → is_taken s.names name ≡ true
+    → says (codes "= taken " ++ name) ≡ creation_outcome e name text s
+when_taken e name text s free taken = rw (free, taken) refl
+
+pub when_untaken : (e : Option Expr) (name text : List ℕ) (s : After) → is_some s.world.main ≡ false → is_taken s.names name ≡ false
+    → creation_begins e name text ≡ creation_outcome e name text s
+when_untaken e name text s free untaken = rw (free, untaken) refl
 
 -- a name that is no plain one, and a plain one
 pub new_refused : (p : Program) (name text : List ℕ) (s : After) → is_plain p name ≡ false → not_built ≡ new_outcome p name text s
 new_refused p name text s plain = rw plain refl
 
-pub new_plain : (p : Program) (name text : List ℕ) (s : After) → is_plain p name ≡ true → creation_outcome (creation_of text) name s ≡ new_outcome p name text s
+pub new_plain : (p : Program) (name text : List ℕ) (s : After) → is_plain p name ≡ true → creation_outcome (creation_of text) name text s ≡ new_outcome p name text s
 new_plain p name text s plain = rw plain refl
 
 pub inspect_refused : (p : Program) (name : List ℕ) (s : After) → is_plain p name ≡ false → not_built ≡ inspect_outcome p name s
@@ -135,7 +158,7 @@ pub plain_over : (p q r : Program) (name : List ℕ) (b t : Bool) → b ≡ is_p
 plain_over p q r name b t test first second is = sym (ap (λ (p : Program). is_plain p name) (first ∙ second)) ∙ sym test ∙ is
 
 -- a call on a name that stands for no Cell
-pub no_cell : (call : CellCall) (s : After) → cell_in (value_in s.names (call_name call)) ≡ None → not_built ≡ call_outcome (Some call) s
+pub no_cell : (call : CellCall) (s : After) → cell_in (value_in s.names (call_name call)) ≡ None → not_built ≡ cell_call_outcome call s
 no_cell call s none = ap (λ (v : Option Val). called_outcome call v s) (sym none)
 
 -- the object of a call on `Cell` is one

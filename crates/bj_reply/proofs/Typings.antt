@@ -1,5 +1,6 @@
 -- The terms of lines are typed over the program that is loaded.
-use Rattle.std.proofs.Common.{◌≡◌, ◌⊎◌, ℕ, true, List, Option, Some, inl, inr, refl, sym, subst, ◌∙◌}
+use Rattle.std.proofs.Common.{◌≡◌, ◌⊎◌, ℕ, true, List, Option, Some, None, inl, inr, refl, sym, subst, ◌∙◌}
+use Rattle.std.specs.Prelude.{◌↔◌}
 use Rattle.bj_core.specs.declared.frame.Term.{Term}
 use Rattle.bj_core.specs.declared.program.Program.{Program}
 use Rattle.bj_core.specs.declared.tree.Expr.{Expr}
@@ -15,11 +16,13 @@ use Rattle.bj_builtin.specs.Builtin.{builtin}
 use Rattle.bj_builtin.specs.Console.{new_cell, call_add, call_get}
 use Rattle.bj_sum.specs.declared.cells.CellCall.{CellCall}
 use Rattle.bj_sum.specs.declared.cells.CellCall.TheVariants as call
+use Rattle.bj_sum.specs.Cells.{IsCreation, creation_of}
+use Rattle.bj_sum.specs.Reading.{sum_of}
 use Rattle.bj_sum.specs.Sums.{IsSum, constant, negation, operation}
 use Rattle.bj_history.specs.History.{loaded}
 use Rattle.bj_history.specs.Replies.{call_term, cell_in, local, new_term, pad_term}
 use Rattle.bj_reply.proofs.Forms.{cell_is}
-use Rattle.bj_reply.specs.Asking.{HasSum}
+use Rattle.bj_reply.specs.Asking.{HasSum, IsSumIfAny}
 
 -- the operators of sums give a value for all operands
 total : (o : Op) → (o ≡ Add) ⊎ ((o ≡ Sub) ⊎ (o ≡ Mul)) → is_total o ≡ true
@@ -48,6 +51,12 @@ pad_typed program e same is_program sum =
 -- how creations of Cell are typed
 abbrev pub TypesCells : Type 0
 TypesCells = (term : Term) (at : Span) (x : Expr) → term.body ≡ new_cell at x → term.gives ≡ t.Class 5 → HasTy builtin (scope_of term) x t.Int → IsTyped builtin term
+
+-- the argument of a creation that was read is a sum
+pub sum_if_any : (text : List ℕ) (e : Option Expr) → e ≡ creation_of text → ((text : List ℕ) (argument : Expr) → (creation_of text ≡ Some argument) ↔ IsCreation text argument)
+    → ((text : List ℕ) (e : Expr) → sum_of text ≡ Some e → IsSum e) → IsSumIfAny e
+sum_if_any text None same creations sums = tt
+sum_if_any text (Some e) same creations sums = let creation = (creations text e).0 (sym same) in sums creation.inner e creation.reads
 
 -- the term of `new` is typed
 pub new_typed : (program : Program) (name : List ℕ) (e : Expr) → program ≡ loaded → TypesCells → IsSum e → IsTyped program (new_term name e)

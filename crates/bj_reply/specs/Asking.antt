@@ -17,7 +17,7 @@ use Rattle.bj_machine.specs.Shown.{Shown, Stands, IsReady}
 use Rattle.bj_history.specs.declared.names.BoundName.{BoundName}
 use Rattle.bj_history.specs.Events.{done_event}
 use Rattle.bj_history.specs.Names.{binds}
-use Rattle.bj_history.specs.Replies.{After, LineOutcome, local, start_place}
+use Rattle.bj_history.specs.Replies.{After, Answers, LineOutcome, local, start_place}
 use Rattle.bj_reply.specs.declared.asking.Asked.{Asked}
 
 -- a thread is prepared for the term that begins, where there is one
@@ -34,7 +34,7 @@ binds_of (Some term) = binds term.kind
 
 -- what is asked is what the line comes to
 pub record IsAsked (m : Shown) (x : LineOutcome) (asked : Asked) : Type 0 where
-  pub reply : asked.reply ≡ x.reply
+  pub reply : Answers x.reply asked.reply
   pub thread : IsPrepared m x.term asked.thread
   pub binds : asked.binds ≡ binds_of x.term
   pub wait : asked.wait ≡ x.wait
@@ -46,6 +46,11 @@ IsFor m names outcome asked = (s : After) → Stands m s.world → names ≡ s.n
 -- the same, whatever the names are
 abbrev pub IsForAny : Shown → (After → LineOutcome) → Asked → Type 0
 IsForAny m outcome asked = (s : After) → Stands m s.world → IsAsked m (outcome s) asked
+
+-- the argument of a creation, where one was read, is a sum
+abbrev pub IsSumIfAny : Option Expr → Type 0
+IsSumIfAny None = Unit {0}
+IsSumIfAny (Some argument) = IsSum argument
 
 -- the argument of a call is a sum
 abbrev pub HasSum : CellCall → Type 0

@@ -1,16 +1,17 @@
-ghost use Rattle.std.specs.Prelude.{◌≡◌, ◌≤◌, IfOk, Ok, OnErr, Some, length, true};
+ghost use Rattle.std.specs.Prelude.{◌≡◌, ◌≤◌, IfOk, Ok, OnErr, length, true};
 ghost use Rattle.bj_command.specs.Words.{IsForm, IsShort, form_in, takes_memory};
 ghost use Rattle.bj_history.specs.History.{After, loaded};
-ghost use Rattle.bj_history.specs.Replies.{call_outcome, creation_outcome, inspect_outcome, new_outcome, outcome_of, pad_outcome};
+ghost use Rattle.bj_history.specs.Replies.{call_outcome, cell_call_outcome, creation_begins, creation_outcome, inspect_outcome, new_outcome, outcome_of, pad_outcome};
 ghost use Rattle.bj_history.specs.Names.{is_taken as spec_is_taken};
 ghost use Rattle.bj_machine.specs.Shown.{Stands};
 ghost use Rattle.bj_sum.specs.Cells.{call_of, creation_of};
 ghost use Rattle.bj_sum.specs.Reading.{sum_of};
-ghost use Rattle.bj_sum.specs.Sums.{IsSum};
-ghost use Rattle.bj_reply.specs.Asking.{HasSum, IsAsked, IsFor, IsForAny};
+ghost use Rattle.bj_reply.specs.Asking.{HasSum, IsAsked, IsFor, IsForAny, IsSumIfAny};
 
 use crate::Bench;
-use crate::outcomes::{nothing, opens, replied, says, says_bad, says_of, starts, starts_if_free};
+use crate::outcomes::{
+    nothing, opens, reads, reads_if_free, replied, says, says_bad, says_of, starts, starts_if_free,
+};
 use crate::plain::is_plain;
 use crate::terms::{call_name, call_term, cell_in, new_term, pad_term};
 use crate::viewing::inspection;
@@ -20,6 +21,7 @@ use bj_core::{Bytes, Expr, Name, NoMemory};
 use bj_exec::Thread;
 use bj_history::Wait;
 use bj_machine::Machine;
+use bj_reading::JavaText;
 use bj_sum::{CellCall, cells_are_read, read_call, read_creation, read_sum, sums_are_of_sums};
 use std::alloc::Global;
 
@@ -40,13 +42,13 @@ pub struct Asked {
 fn ask_pad(alloc: Global, machine: &Machine, text: &[u8]) -> Result<Asked, NoMemory>
     requires program { machine.now.program ≡ loaded }
     requires fits { length text.now ≤ 65536 }
-    ensures { IfOk result (IsForAny machine.now (pad_outcome (sum_of text.now))) }
+    ensures { IfOk result (IsForAny machine.now (pad_outcome (sum_of text.now) text.now)) }
 {
     builtin_is_a_program();
     sums_are_of_sums();
     match read_sum(alloc, text)? {
         Some(expr) => starts_if_free(alloc, machine, pad_term(alloc, expr)),
-        None => says(alloc, b"= not built"),
+        None => reads_if_free(alloc, machine, JavaText::Line, text),
     }
 }
 
@@ -57,19 +59,41 @@ fn is_taken(bench: &Bench, name: &[u8]) -> bool
     bench.find(name).is_some() || bench.is_full()
 }
 
-/// What is asked by `new` with a name and the argument.
+/// What is asked by `new` with a name and a text, where nothing runs and the name is not taken; with the argument, where the text
+/// creates a Cell.
+fn begin_creation(
+    alloc: Global,
+    machine: &Machine,
+    name: &[u8],
+    text: &[u8],
+    argument: Option<Expr>,
+) -> Result<Asked, NoMemory>
+    requires program { machine.now.program ≡ loaded }
+    requires fits { length text.now ≤ 65536 }
+    requires sum { IsSumIfAny argument }
+    ensures { IfOk result (IsAsked machine.now (creation_begins argument name.now text.now)) }
+{
+    new_cells_are_typed();
+    match argument {
+        Some(argument) => starts(alloc, machine, new_term(alloc, name, argument)?),
+        None => reads(alloc, JavaText::Creation, text),
+    }
+}
+
+/// What is asked by `new` with a name and a text; with the argument, where the text creates a Cell.
 fn ask_creation(
     alloc: Global,
     machine: &Machine,
     bench: &Bench,
     name: &[u8],
-    argument: Expr,
+    text: &[u8],
+    argument: Option<Expr>,
 ) -> Result<Asked, NoMemory>
     requires program { machine.now.program ≡ loaded }
-    requires sum { IsSum argument }
-    ensures { IfOk result (IsFor machine.now bench.now (creation_outcome (Some argument) name.now)) }
+    requires fits { length text.now ≤ 65536 }
+    requires sum { IsSumIfAny argument }
+    ensures { IfOk result (IsFor machine.now bench.now (creation_outcome argument name.now text.now)) }
 {
-    new_cells_are_typed();
     if machine.is_busy() {
         let_go(argument);
         return says(alloc, b"= busy");
@@ -78,7 +102,7 @@ fn ask_creation(
         let_go(argument);
         return says_of(alloc, b"= taken ", name);
     }
-    starts(alloc, machine, new_term(alloc, name, argument)?)
+    begin_creation(alloc, machine, name, text, argument)
 }
 
 /// What is asked by `new` with a name and a text.
@@ -98,10 +122,8 @@ fn ask_new(
     if !is_plain(machine.program(), name) {
         return says(alloc, b"= not built");
     }
-    match read_creation(alloc, text)? {
-        Some(argument) => ask_creation(alloc, machine, bench, name, argument),
-        None => says(alloc, b"= not built"),
-    }
+    let argument = read_creation(alloc, text)?;
+    ask_creation(alloc, machine, bench, name, text, argument)
 }
 
 /// What is asked by `call` with a call that was read.
@@ -113,7 +135,7 @@ fn ask_called(
 ) -> Result<Asked, NoMemory>
     requires program { machine.now.program ≡ loaded }
     requires sum { HasSum call }
-    ensures { IfOk result (IsFor machine.now bench.now (call_outcome (Some call))) }
+    ensures { IfOk result (IsFor machine.now bench.now (cell_call_outcome call)) }
 {
     calls_of_cells_are_typed();
     match cell_in(bench.find(call_name(&call))) {
@@ -129,13 +151,13 @@ fn ask_called(
 fn ask_call(alloc: Global, machine: &Machine, bench: &Bench, text: &[u8]) -> Result<Asked, NoMemory>
     requires program { machine.now.program ≡ loaded }
     requires fits { length text.now ≤ 65536 }
-    ensures { IfOk result (IsFor machine.now bench.now (call_outcome (call_of text.now))) }
+    ensures { IfOk result (IsFor machine.now bench.now (call_outcome (call_of text.now) text.now)) }
 {
     cells_are_read();
     sums_are_of_sums();
     match read_call(alloc, text)? {
         Some(call) => ask_called(alloc, machine, bench, call),
-        None => says(alloc, b"= not built"),
+        None => reads_if_free(alloc, machine, JavaText::Call, text),
     }
 }
 
@@ -162,7 +184,7 @@ fn ask_inspect(
 }
 
 /// Lets an expression go. Its drop stands here alone, so that no caller's proof goes through it.
-fn let_go(_argument: Expr) {}
+fn let_go(_argument: Option<Expr>) {}
 
 /// Lets a call go, as `let_go` does an expression.
 fn let_call_go(_call: CellCall) {}

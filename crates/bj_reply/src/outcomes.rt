@@ -1,7 +1,7 @@
-ghost use Rattle.std.specs.Prelude.{◌≡◌, ◌++◌, [], IfOk, codes, decimal};
+ghost use Rattle.std.specs.Prelude.{◌≡◌, ◌<◌, ◌++◌, [], IfOk, codes, decimal, length};
 ghost use Rattle.bj_eval.specs.Typed.{IsTyped};
 ghost use Rattle.bj_history.specs.Names.{binds};
-ghost use Rattle.bj_history.specs.Replies.{says as spec_says, starts as spec_starts, opens as spec_opens, if_free};
+ghost use Rattle.bj_history.specs.Replies.{says as spec_says, reads as spec_reads, starts as spec_starts, opens as spec_opens, if_free};
 ghost use Rattle.bj_machine.specs.Shown.{Shown};
 ghost use Rattle.bj_reply.specs.Asking.{IsAsked, IsForAny};
 
@@ -10,6 +10,7 @@ use crate::terms::name_bound;
 use bj_core::{Bytes, Name, NoMemory, Term, TermKind};
 use bj_history::Wait;
 use bj_machine::Machine;
+use bj_reading::{JavaText, reading_reply};
 use std::alloc::Global;
 
 /// A reply, with which nothing begins. Takes no memory.
@@ -77,6 +78,43 @@ pub fn says_bad(alloc: Global, at: usize) -> Result<Asked, NoMemory>
 {
     let text = format!(in alloc; "= bad line {at}")?;
     says(alloc, text.as_bytes())
+}
+
+/// What reading a text of Java comes to, with which nothing begins.
+///
+/// # Errors
+///
+/// `NoMemory` where there is no room for what is read, or for the reply.
+pub fn reads(alloc: Global, form: JavaText, text: &[u8]) -> Result<Asked, NoMemory>
+    requires { length text.now < 4294967295 }
+    ensures { IfOk result (λ asked. (m : Shown) → IsAsked m (spec_reads form text.now) asked) }
+{
+    Ok(Asked {
+        reply: reading_reply(alloc, form, text)?,
+        thread: None,
+        binds: None,
+        wait: None,
+    })
+}
+
+/// What reading a text of Java comes to, where no term runs.
+///
+/// # Errors
+///
+/// As `reads`.
+pub fn reads_if_free(
+    alloc: Global,
+    machine: &Machine,
+    form: JavaText,
+    text: &[u8],
+) -> Result<Asked, NoMemory>
+    requires { length text.now < 4294967295 }
+    ensures { IfOk result (IsForAny machine.now (λ s. if_free s.world (spec_reads form text.now))) }
+{
+    if machine.is_busy() {
+        return says(alloc, b"= busy");
+    }
+    reads(alloc, form, text)
 }
 
 /// What is replied where a term begins, and the name that it binds.

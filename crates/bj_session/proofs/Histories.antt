@@ -13,10 +13,11 @@ use Rattle.bj_command.specs.declared.command.LineFault.TheVariants.{BadLine, NoM
 use Rattle.bj_command.specs.Words.{IsOfPad, form_in, is_quit, takes_memory}
 use Rattle.bj_command.proofs.Pads.{form_of_pad}
 use Rattle.bj_command.proofs.Quits.{quit_in}
+use Rattle.bj_reading.specs.declared.text.JavaText.TheVariants as java
 use Rattle.bj_sum.specs.Reading.{sum_of}
 use Rattle.bj_history.specs.declared.opening.Opening.{Opening}
 use Rattle.bj_history.specs.declared.opening.Wait.{Wait}
-use Rattle.bj_history.specs.Replies.{LineOutcome, says, starts, pad_term, pad_outcome, outcome_of}
+use Rattle.bj_history.specs.Replies.{Answers, LineOutcome, says, reads, starts, pad_term, pad_outcome, outcome_of}
 use Rattle.bj_history.specs.Events.{woke_event, written_line}
 use Rattle.bj_history.specs.History.{After, after, after_line, wait_after, loaded, IsReply}
 use Rattle.bj_history.proofs.Outcomes.{line_case, quit_outcome}
@@ -25,15 +26,15 @@ wait_if : (b : Bool) (x y : LineOutcome) → x.wait ≡ None → y.wait ≡ None
 wait_if true x y first second = first
 wait_if false x y first second = second
 
-pad_wait : (e : Option Expr) (s : After) → (pad_outcome e s).wait ≡ None
-pad_wait None s = refl
-pad_wait (Some e) s = wait_if (is_some s.world.main) (says (codes "= busy")) (starts (pad_term e)) refl refl
+pad_wait : (e : Option Expr) (text : List ℕ) (s : After) → (pad_outcome e text s).wait ≡ None
+pad_wait None text s = wait_if (is_some s.world.main) (says (codes "= busy")) (reads java.Line text) refl refl
+pad_wait (Some e) text s = wait_if (is_some s.world.main) (says (codes "= busy")) (starts (pad_term e)) refl refl
 
 -- a form of `pad` opens no wait
 waits_not : (program : Program) (form : Result Command LineFault) (s : After) → IsOfPad form → (outcome_of program form s).wait ≡ None
 unfolding outcome_of
 waits_not program (Ok Blank) s is = refl
-waits_not program (Ok (Pad text)) s is = pad_wait (sum_of text) s
+waits_not program (Ok (Pad text)) s is = pad_wait (sum_of text) text s
 waits_not program (Ok Quit) s is = refl
 waits_not program (Ok other) s is = absurd is
 waits_not program (Err (BadLine place)) s is = refl
@@ -57,6 +58,7 @@ silent_in_pad o (e ∷ front) reason pad = silent_in_pad o front reason pad
 -- a line that is `quit` is replied nothing
 pub quit_silent : (o : Opening) (s : After) (line text : List ℕ) → IsReply o s line text → is_quit line ≡ true → written_line text ≡ []
 quit_silent o s line text replied quit = elim replied [
-  | inl is ↦ ap written_line (is ∙ ap (λ (x : LineOutcome). x.reply) (quit_outcome o line s quit))
+  | inl is ↦ (let nothing : text ≡ [] = subst (λ (x : LineOutcome). Answers x.reply text) (quit_outcome o line s quit) is in
+      ap written_line nothing)
   | inr memory ↦ absurd (let no : false ≡ true = sym (ap takes_memory (quit_in o.pad line quit)) ∙ memory.0 in cc)
 ]

@@ -125,7 +125,7 @@ lined_entered o m m' wait name bench line asked k =
       log = log_entered o m m' wait name bench line asked k;
       actions = ap (λ (l : LogValue). l.actions) b.log ∙ k.entered.noted.actions;
       setting = b.setting ∙ rw (k.entered.noted.keeps.program, k.entered.noted.keeps.limits) refl;
-      changes = ap (λ (text : List ℕ). after_line o line text (after o m.log.entries)) k.asks.reply ∙ line_replied o line (after o m.log.entries);
+      changes = line_replied o line asked.reply (after o m.log.entries) k.asks.reply;
       stands = b.stands (after o m.log.entries).world (stands_noted (Line line asked.reply) m k.entered.lined (after o m.log.entries).world k.entered.noted k.kept.stands);
     }
 

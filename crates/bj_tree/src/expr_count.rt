@@ -9,7 +9,7 @@ use crate::capped::{one_more, plus};
 /// The nodes of an expression, itself included, or 4294967295 where it has more.
 #[cycle(expr_counts)]
 #[tactic(auto, using(crate::proofs::ExprNodes::expr_nodes))]
-pub(crate) fn expr_nodes(tree: &ExprTree) -> u32
+pub fn expr_nodes(tree: &ExprTree) -> u32
     ensures { result ≡ min (nodes_of_expr tree.now) 4294967295 }
 {
     match tree {

@@ -20,6 +20,7 @@ pub use class::{
 };
 pub use count::nodes;
 pub use expr::{AssignOp, BinaryOp, ExprTree, ExprTrees, LiteralKind, StepOp, UnaryOp};
+pub use expr_count::expr_nodes;
 pub use line::LineTree;
 pub use member::{
     ConstructorTree, FieldTree, InitializerTree, MemberTree, MemberTrees, MethodTree,

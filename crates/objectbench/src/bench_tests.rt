@@ -66,7 +66,7 @@ fn an_object_is_made_called_and_inspected(rt: HostRuntime) {
 }
 
 /// Inputs of `bench`, with what is written.
-const ANSWERS: [(&[u8], &[u8]); 34] = [
+const ANSWERS: [(&[u8], &[u8]); 42] = [
     (b"", b""),
     (b"\n  \n", b""),
     (b"wait\n", b"! idle\n"),
@@ -90,8 +90,15 @@ const ANSWERS: [(&[u8], &[u8]); 34] = [
     (b"new Cell Cell(1)\n", b"= not built\n"),
     (b"new c Cell(1 / 1)\n", b"= not built\n"),
     (b"call c.get()\n", b"= not built\n"),
-    (b"call c\n", b"= not built\n"),
-    (b"call new Cell(1)\n", b"= not built\n"),
+    (b"call c\n", b"= fault 1:1 syntax\n"),
+    (b"call new Cell(1)\n", b"= fault 1:1 syntax\n"),
+    (b"call 1 + 2\n", b"= fault 1:1 syntax\n"),
+    (b"call c.get(\n", b"= fault 1:7 syntax\n"),
+    (b"new x 5\n", b"= fault 1:1 syntax\n"),
+    (b"new x Cell(3\n", b"= fault 1:7 syntax\n"),
+    (b"new x Cell(3).get()\n", b"= fault 1:1 syntax\n"),
+    (b"new x   int[3]\n", b"= fault 1:1 syntax\n"),
+    (b"new c1 Cell(3\n", b"= not built\n"),
     (b"inspect x\n", b"= unknown x\n"),
     (b"inspect Cell\n", b"= not built\n"),
     (
@@ -101,6 +108,10 @@ const ANSWERS: [(&[u8], &[u8]); 34] = [
     (
         b"new c Cell(5)\nnew c Cell(6)\ncall c.get()\n",
         b"= started\n! c <Cell 5>\n= taken c\n= started\n! 5 (int)\n",
+    ),
+    (
+        b"new c Cell(5)\nnew c Cell(\n",
+        b"= started\n! c <Cell 5>\n= taken c\n",
     ),
     (
         b"new c Cell(5)\ncall c.put(1)\ncall d.get()\n",
@@ -202,8 +213,10 @@ fn the_log_keeps_the_actions_of_a_new_object_and_a_call(rt: HostRuntime) {
 
 #[test]
 fn a_bench_that_has_used_its_actions_is_busy_and_spent(rt: HostRuntime) {
-    let input: &[u8] = b"new c Cell(5)\nnew c Cell(1)\npad 1\nwait\ninspect c\nnew Cell Cell(1)\n";
-    let output: &[u8] = b"= started\n= busy\n= busy\n! spent\n= unknown c\n= not built\n";
+    let input: &[u8] =
+        b"new c Cell(5)\nnew c Cell(1)\npad 1\npad 1 +\nnew c Cell(\ncall c\nwait\ninspect c\nnew Cell Cell(1)\n";
+    let output: &[u8] =
+        b"= started\n= busy\n= busy\n= busy\n= busy\n= busy\n! spent\n= unknown c\n= not built\n";
     assert!(rt; wrote(bench_within(rt.alloc(), 5, 10, input), 0, output));
 }
 

@@ -58,15 +58,24 @@ fn a_codepad_line_is_answered_by_a_history_of_five_entries(rt: HostRuntime) {
 }
 
 /// Inputs of `pad`, with what is written.
-const OUTPUTS: [(&[u8], &[u8]); 18] = [
+const OUTPUTS: [(&[u8], &[u8]); 24] = [
     (b"", b""),
     (b"pad 2147483647 + 1\n", b"= started\n! -2147483648 (int)\n"),
     (b"pad -(2 + 3) * 4\n", b"= started\n! -20 (int)\n"),
     (b"pad 7 - 2 - 1\n", b"= started\n! 4 (int)\n"),
     (b"pad 65536 * 65536 + 5\n", b"= started\n! 5 (int)\n"),
     (b"pad 1 / 0\n", b"= not built\n"),
-    (b"pad 2147483648\n", b"= not built\n"),
-    (b"pad (1\n", b"= not built\n"),
+    (b"pad 2147483648\n", b"= fault 1:1 wide\n"),
+    (b"pad (1\n", b"= fault 1:3 syntax\n"),
+    (b"pad   1 +\r\n", b"= fault 1:4 syntax\n"),
+    (b"pad \"a\"\n", b"= not built\n"),
+    (b"pad 0x10\n", b"= not built\n"),
+    (b"pad int x = 5;\n", b"= not built\n"),
+    (b"pad 1.5\n", b"= fault 1:1 profile\n"),
+    (
+        b"pad /* a\npad 3\n",
+        b"= fault 1:1 open\n= started\n! 3 (int)\n",
+    ),
     (b"\n  \r\npad 3\n", b"= started\n! 3 (int)\n"),
     (
         b"pad 1\r\npad 2",
@@ -112,7 +121,7 @@ fn two_hundred_parentheses_are_read(rt: HostRuntime) -> Result<(), Fail> {
     let read = nested(alloc, 200)?;
     assert!(rt; writes(alloc, read.as_slice(), b"= started\n! 1 (int)\n"));
     let refused = nested(alloc, 201)?;
-    assert!(rt; writes(alloc, refused.as_slice(), b"= not built\n"));
+    assert!(rt; writes(alloc, refused.as_slice(), b"= fault 1:202 deep\n"));
     Ok(())
 }
 

@@ -1,8 +1,8 @@
-use Rattle.std.proofs.Common.{◌≡◌, Option, Some, None, sym, ap, ◌∙◌}
+use Rattle.std.proofs.Common.{◌≡◌, Option, Some, None, sym, ap, ◌∙◌, arith}
 use Rattle.bj_core.specs.declared.tree.Expr.{Expr}
 use Rattle.bj_history.specs.Replies.{pad_outcome}
 use Rattle.bj_sum.specs.Reading.{sum_of}
-use Rattle.bj_reply.proofs.Forms.{any_from}
+use Rattle.bj_reply.proofs.Forms.{any_same}
 use Rattle.bj_reply.proofs.Typings.{pad_typed}
 use Rattle.bj_reply.proofs.asking.ask_pad.Goals as goal
 
@@ -12,7 +12,10 @@ starts_if_free-requires c =
     rw c.pad_term.ensures (pad_typed c.args.machine.now.program c.in-Some.expr c.requires.program c.builtin_is_a_program.ensures
     (c.sums_are_of_sums.ensures c.args.text.now c.in-Some.expr read))
 
+pub reads_if_free-requires : goal.reads_if_free-requires
+reads_if_free-requires c = let fits = c.requires.fits in omega arith
+
 pub returns-in-None : goal.returns-in-None
 returns-in-None c =
     let none : None ≡ sum_of c.args.text.now = sym c.in-None.is ∙ c.in_ok-expr.ensures in
-    any_from c.says.result c.args.machine.now _ _ c.says.ensures (λ s stands. ap (λ (e : Option Expr). pad_outcome e s) none)
+    any_same c.reads_if_free.result c.args.machine.now _ _ (λ s. ap (λ (e : Option Expr). pad_outcome e c.args.text.now s) none) c.reads_if_free.ensures

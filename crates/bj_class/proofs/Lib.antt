@@ -1,0 +1,16 @@
+pub mod Needed
+pub mod NameLaws
+pub mod SpelledLaws
+pub mod NoteLaws
+pub mod HeadLaws
+pub mod LawSteps
+pub mod ParameterLaws
+pub mod MemberForms
+pub mod BodyLaws
+pub mod MemberTokens
+pub mod MemberAhead
+pub mod MemberLaws
+pub mod MemberListLaws
+pub mod FileLaws
+pub mod GivenStatements
+pub mod ClassCode

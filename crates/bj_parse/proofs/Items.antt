@@ -1,0 +1,378 @@
+-- Parts that are read one after another, each checked as it stands.
+use Rattle.std.proofs.Common.{◌≡◌, ℕ, zero, suc, ◌+◌, ◌-◌, ◌<◌, ◌≤◌, ◌⊎◌, inl, inr, Bool, true, false, cond, List, [], ◌∷◌, ◌++◌, refl, sym, ap, ◌∙◌, subst, arith, Result}
+use Rattle.bj_rules.specs.declared.misfit.Misfit.{Misfit}
+use Rattle.bj_grammar.specs.declared.stop.Stop.TheVariants as f
+use Rattle.bj_grammar.specs.declared.terminal.Terminal.{Terminal}
+use Rattle.bj_grammar.specs.Terminal.{terminal}
+use Rattle.bj_grammar.specs.Reader.{Text, Answer, Found, Wrong, Over, Parser, and_then, ◌>>=◌, pure, over, loop}
+use Rattle.bj_grammar.specs.Given.{IsOver}
+use Rattle.bj_grammar.proofs.Laws as laws_of
+use Rattle.bj_grammar.proofs.Laws.{Rel, Laws, Then, Same, Outcome, Steps, done, more}
+use Rattle.bj_stmt.proofs.Small.{Any}
+use Rattle.bj_parse.specs.Checked.{Checked, Reads, Misfits, then_checked, checked_items, IsOverChecked}
+
+-- reading ends with a misfit, or passes a limit
+abbrev pub IsHalted : {A : Type 0} → Checked A → Type 0
+IsHalted (Reads (Found a j)) = ⊥
+IsHalted (Reads (Wrong k)) = ⊥
+IsHalted (Reads (Over k)) = Unit {0}
+IsHalted (Misfits x) = Unit {0}
+
+pub then_halted : {A B : Type 0} (r : Checked A) (g : A → ℕ → Checked B) → IsHalted r → IsHalted (then_checked r g)
+then_halted (Reads (Found a j)) g h = absurd h
+then_halted (Reads (Wrong k)) g h = absurd h
+then_halted (Reads (Over k)) g h = tt
+then_halted (Misfits x) g h = tt
+
+over_halted : {A : Type 0} (r : Answer A) → IsOver r → IsHalted (Reads r)
+over_halted (Found a j) h = absurd h
+over_halted (Wrong k) h = absurd h
+over_halted (Over k) h = tt
+
+pub over_checked_halted : {A : Type 0} (r : Checked A) → IsOverChecked r → IsHalted r
+over_checked_halted (Reads r) h = over_halted r h
+over_checked_halted (Misfits x) h = absurd h
+
+-- what a whole that goes on behind a part says of the part
+pub then_found : {A B : Type 0} (r : Checked A) (g : A → ℕ → Checked B) (b : B) (j : ℕ) → then_checked r g ≡ Reads (Found b j) → (a : A) × (m : ℕ) × (r ≡ Reads (Found a m)) × (g a m ≡ Reads (Found b j))
+then_found (Reads (Found a m)) g b j e = (a, m, refl, e)
+then_found (Reads (Wrong k)) g b j e = absurd (cc)
+then_found (Reads (Over k)) g b j e = absurd (cc)
+then_found (Misfits x) g b j e = absurd (cc)
+
+pub then_wrong : {A B : Type 0} (r : Checked A) (g : A → ℕ → Checked B) (k : ℕ) → then_checked r g ≡ Reads (Wrong k) → ((a : A) × (m : ℕ) × (r ≡ Reads (Found a m)) × (g a m ≡ Reads (Wrong k))) ⊎ (r ≡ Reads (Wrong k))
+then_wrong (Reads (Found a m)) g k e = inl (a, m, refl, e)
+then_wrong (Reads (Wrong i)) g k e = let same : i ≡ k = cc in inr (ap (λ (n : ℕ). Reads (Wrong n)) same)
+then_wrong (Reads (Over i)) g k e = absurd (cc)
+then_wrong (Misfits x) g k e = absurd (cc)
+
+pub then_over : {A B : Type 0} (r : Checked A) (g : A → ℕ → Checked B) → IsOverChecked (then_checked r g) → ((a : A) × (m : ℕ) × (r ≡ Reads (Found a m)) × IsOverChecked (g a m)) ⊎ IsOverChecked r
+then_over (Reads (Found a m)) g h = inl (a, m, refl, h)
+then_over (Reads (Wrong i)) g h = absurd h
+then_over (Reads (Over i)) g h = inr tt
+then_over (Misfits x) g h = absurd h
+
+pub then_misfit : {A B : Type 0} (r : Checked A) (g : A → ℕ → Checked B) (x : Misfit) → then_checked r g ≡ Misfits x → ((a : A) × (m : ℕ) × (r ≡ Reads (Found a m)) × (g a m ≡ Misfits x)) ⊎ (r ≡ Misfits x)
+then_misfit (Reads (Found a m)) g x e = inl (a, m, refl, e)
+then_misfit (Reads (Wrong i)) g x e = absurd (cc)
+then_misfit (Reads (Over i)) g x e = absurd (cc)
+then_misfit (Misfits y) g x e = let same : y ≡ x = cc in inr (ap Misfits same)
+
+pub reads_is : {A : Type 0} (r q : Answer A) → Reads r ≡ Reads q → r ≡ q
+reads_is r q e = cc
+
+pub reads_over : {A : Type 0} (r : Answer A) → IsOverChecked (Reads r) → IsOver r
+reads_over r h = h
+
+-- ---- parts of one kind
+
+pub record Items {A : Type 0} (most : ℕ) (test : Terminal → Bool) (item : Parser A) (check : A → ℕ → Checked A) (s : Text) (Q : Rel A) (T : A → Type 0)
+    (Stand : List A → ℕ → Type 0) (Fit : A → Type 0) (FitAll : List A → Type 0) (Mis : A → Misfit → Type 0) (Tall : List A → Type 0) : Type 1 where
+  pub laws : Laws most item Q Any T
+  pub begins : (a : A) (i j : ℕ) → Q s a i j → test (terminal (s i)) ≡ true
+  pub next : (b : List A) (a : A) (i j : ℕ) → Stand b i → Q s a i j → Stand (b ++ a ∷ []) j
+  pub check_found : (a b : A) (j k : ℕ) → check a j ≡ Reads (Found b k) → (b ≡ a) × (k ≡ j) × Fit a
+  pub check_wrong : (a : A) (j k : ℕ) → check a j ≡ Reads (Wrong k) → ⊥
+  pub check_misfit : (a : A) (j : ℕ) (x : Misfit) → check a j ≡ Misfits x → Mis a x
+  pub check_over : (a : A) (j : ℕ) → IsOverChecked (check a j) → T a
+  pub check_fit : (a : A) (j : ℕ) → Fit a → check a j ≡ Reads (Found a j)
+  pub check_met : (a : A) (j : ℕ) (x : Misfit) → Mis a x → IsHalted (check a j)
+  pub fit_end : (b : List A) (a : A) → FitAll b → Fit a → FitAll (b ++ a ∷ [])
+  pub fit_before : (b : List A) (a : A) → FitAll (b ++ a ∷ []) → FitAll b
+  pub fit_last : (b : List A) (a : A) → FitAll (b ++ a ∷ []) → Fit a
+  pub tall_last : (b : List A) (a : A) → T a → Tall (b ++ a ∷ [])
+  pub tall_before : (b : List A) (a : A) → Tall b → Tall (b ++ a ∷ [])
+
+module _ {A : Type 0} (most : ℕ) (test : Terminal → Bool) (item : Parser A) (check : A → ℕ → Checked A) (s : Text) (Q : Rel A) (T : A → Type 0)
+    (Stand : List A → ℕ → Type 0) (Fit : A → Type 0) (FitAll : List A → Type 0) (Mis : A → Misfit → Type 0) (Tall : List A → Type 0) (u : Items most test item check s Q T Stand Fit FitAll Mis Tall) where
+  -- one part behind others
+  abbrev pub step : List A → Parser (List A)
+  step b = item >>= λ c. pure (b ++ c ∷ [])
+
+  abbrev run : ℕ → List A → ℕ → Checked (List A)
+  run n b i = checked_items test item check s n b i
+
+  abbrev plain : ℕ → List A → ℕ → Answer (List A)
+  plain n b i = loop n test step b s i
+
+  abbrev one : ℕ → Checked A
+  one i = then_checked (Reads (item s i)) check
+
+  abbrev rest : ℕ → List A → A → ℕ → Checked (List A)
+  rest n b a j = run n (b ++ a ∷ []) j
+
+  -- a turn, or none
+  run_turn : (n : ℕ) (b : List A) (i : ℕ) → test (terminal (s i)) ≡ true → run (suc n) b i ≡ then_checked (one i) (rest n b)
+  unfolding checked_items
+  run_turn n b i e = ap (λ (c : Bool). cond c (then_checked (one i) (rest n b)) (Reads (Found b i))) e
+
+  run_stop : (n : ℕ) (b : List A) (i : ℕ) → test (terminal (s i)) ≡ false → run n b i ≡ Reads (Found b i)
+  unfolding checked_items
+  run_stop zero b i e = ap (λ (c : Bool). cond c (Reads (over {A = List A} s i)) (Reads (Found b i))) e
+  run_stop (suc n) b i e = ap (λ (c : Bool). cond c (then_checked (one i) (rest n b)) (Reads (Found b i))) e
+
+  run_zero : (b : List A) (i : ℕ) → test (terminal (s i)) ≡ true → IsOverChecked (run 0 b i)
+  unfolding checked_items
+  run_zero b i e = subst (λ (c : Bool). IsOverChecked (cond c (Reads (over {A = List A} s i)) (Reads (Found b i)))) (sym e) tt
+
+  plain_turn : (n : ℕ) (b : List A) (i : ℕ) → test (terminal (s i)) ≡ true → plain (suc n) b i ≡ and_then (item s i) (λ a j. plain n (b ++ a ∷ []) j)
+  unfolding loop
+  plain_turn n b i e = ap (λ (c : Bool). cond c ((step b >>= loop n test step) s i) (Found b i)) e ∙ joined (item s i)
+    where
+      joined : (r : Answer A) → and_then (and_then r (λ a j. Found (b ++ a ∷ []) j)) (λ c j. loop n test step c s j) ≡ and_then r (λ a j. loop n test step (b ++ a ∷ []) s j)
+      joined (Found a j) = refl
+      joined (Wrong k) = refl
+      joined (Over k) = refl
+
+  plain_stop : (n : ℕ) (b : List A) (i : ℕ) → test (terminal (s i)) ≡ false → plain n b i ≡ Found b i
+  unfolding loop
+  plain_stop zero b i e = ap (λ (c : Bool). cond c (over {A = List A} s i) (Found b i)) e
+  plain_stop (suc n) b i e = ap (λ (c : Bool). cond c ((step b >>= loop n test step) s i) (Found b i)) e
+
+  plain_zero : (b : List A) (i : ℕ) → test (terminal (s i)) ≡ true → IsOver (plain 0 b i)
+  unfolding loop
+  plain_zero b i e = subst (λ (c : Bool). IsOver (cond c (over {A = List A} s i) (Found b i))) (sym e) tt
+
+  cases_of : (b : Bool) → (b ≡ true) ⊎ (b ≡ false)
+  cases_of true = inl refl
+  cases_of false = inr refl
+
+  -- what one part comes to
+  one_found : (i : ℕ) (a : A) (j : ℕ) → one i ≡ Reads (Found a j) → (item s i ≡ Found a j) × Fit a
+  one_found i a j e = of (then_found (Reads (item s i)) check a j e)
+    where
+      of : (c : A) × (m : ℕ) × (Reads (item s i) ≡ Reads (Found c m)) × (check c m ≡ Reads (Found a j)) → (item s i ≡ Found a j) × Fit a
+      of w =
+          let k = u.check_found w.0 a w.1 j w.3 in
+          let is : item s i ≡ Found w.0 w.1 = reads_is _ _ w.2 in
+          (is ∙ (ap (λ (c : A). Found c w.1) (sym k.0) ∙ ap (Found a) (sym k.1)), subst Fit (sym k.0) k.2)
+
+  one_wrong : (i k : ℕ) → one i ≡ Reads (Wrong k) → item s i ≡ Wrong k
+  one_wrong i k e = of (then_wrong (Reads (item s i)) check k e)
+    where
+      of : ((c : A) × (m : ℕ) × (Reads (item s i) ≡ Reads (Found c m)) × (check c m ≡ Reads (Wrong k))) ⊎ (Reads (item s i) ≡ Reads (Wrong k)) → item s i ≡ Wrong k
+      of (inl w) = absurd (u.check_wrong w.0 w.1 k w.3)
+      of (inr e) = reads_is _ _ e
+
+  -- ---- found
+
+  pub found : (n : ℕ) (b : List A) (i : ℕ) (c : List A) (j : ℕ) → FitAll b → run n b i ≡ Reads (Found c j) → (plain n b i ≡ Found c j) × FitAll c
+  found zero b i c j fit e = of (cases_of (test (terminal (s i))))
+    where
+      no_over : (r : Checked (List A)) → r ≡ Reads (Found c j) → IsOverChecked r → ⊥
+      no_over (Reads (Found x k)) e h = h
+      no_over (Reads (Wrong k)) e h = h
+      no_over (Reads (Over k)) e h = absurd (cc)
+      no_over (Misfits x) e h = h
+
+      of : (test (terminal (s i)) ≡ true) ⊎ (test (terminal (s i)) ≡ false) → (plain zero b i ≡ Found c j) × FitAll c
+      of (inl t) = absurd (no_over (run zero b i) e (run_zero b i t))
+      of (inr t) =
+          let same : Found b i ≡ Found c j = reads_is _ _ (sym (run_stop zero b i t) ∙ e) in
+          (plain_stop zero b i t ∙ same, (let is : b ≡ c = cc in subst FitAll is fit))
+  found (suc n) b i c j fit e = of (λ b i c j fit e. found n b i c j fit e) (cases_of (test (terminal (s i))))
+    where
+      of : ((b : List A) (i : ℕ) (c : List A) (j : ℕ) → FitAll b → run n b i ≡ Reads (Found c j) → (plain n b i ≡ Found c j) × FitAll c) → (test (terminal (s i)) ≡ true) ⊎ (test (terminal (s i)) ≡ false) → (plain (suc n) b i ≡ Found c j) × FitAll c
+      of again (inl t) =
+          let w = then_found (one i) (rest n b) c j (sym (run_turn n b i t) ∙ e) in
+          let k = one_found i w.0 w.1 w.2 in
+          let r = again (b ++ w.0 ∷ []) w.1 c j (u.fit_end b w.0 fit k.1) w.3 in
+          (plain_turn n b i t ∙ (ap (λ (x : Answer A). and_then x (λ a j. plain n (b ++ a ∷ []) j)) k.0 ∙ r.0), r.1)
+      of again (inr t) =
+          let same : Found b i ≡ Found c j = reads_is _ _ (sym (run_stop (suc n) b i t) ∙ e) in
+          (plain_stop (suc n) b i t ∙ same, (let is : b ≡ c = cc in subst FitAll is fit))
+
+  -- ---- stopped by the grammar
+
+  pub wrong : (n : ℕ) (b : List A) (i k : ℕ) → run n b i ≡ Reads (Wrong k) → plain n b i ≡ Wrong k
+  wrong zero b i k e = of (cases_of (test (terminal (s i))))
+    where
+      no_over : (r : Checked (List A)) → r ≡ Reads (Wrong k) → IsOverChecked r → ⊥
+      no_over (Reads (Found x j)) e h = h
+      no_over (Reads (Wrong j)) e h = h
+      no_over (Reads (Over j)) e h = absurd (cc)
+      no_over (Misfits x) e h = h
+
+      of : (test (terminal (s i)) ≡ true) ⊎ (test (terminal (s i)) ≡ false) → plain zero b i ≡ Wrong k
+      of (inl t) = absurd (no_over (run zero b i) e (run_zero b i t))
+      of (inr t) = let same : Found b i ≡ Wrong k = reads_is _ _ (sym (run_stop zero b i t) ∙ e) in absurd (cc)
+  wrong (suc n) b i k e = of (λ b i k e. wrong n b i k e) (cases_of (test (terminal (s i))))
+    where
+      joined : ((b : List A) (i k : ℕ) → run n b i ≡ Reads (Wrong k) → plain n b i ≡ Wrong k) → ((a : A) × (m : ℕ) × (one i ≡ Reads (Found a m)) × (rest n b a m ≡ Reads (Wrong k))) ⊎ (one i ≡ Reads (Wrong k)) → and_then (item s i) (λ a j. plain n (b ++ a ∷ []) j) ≡ Wrong k
+      joined again (inl w) = ap (λ (x : Answer A). and_then x (λ a j. plain n (b ++ a ∷ []) j)) (one_found i w.0 w.1 w.2).0 ∙ again (b ++ w.0 ∷ []) w.1 k w.3
+      joined again (inr e) = ap (λ (x : Answer A). and_then x (λ a j. plain n (b ++ a ∷ []) j)) (one_wrong i k e)
+
+      of : ((b : List A) (i k : ℕ) → run n b i ≡ Reads (Wrong k) → plain n b i ≡ Wrong k) → (test (terminal (s i)) ≡ true) ⊎ (test (terminal (s i)) ≡ false) → plain (suc n) b i ≡ Wrong k
+      of again (inl t) = plain_turn n b i t ∙ joined again (then_wrong (one i) (rest n b) k (sym (run_turn n b i t) ∙ e))
+      of again (inr t) = let same : Found b i ≡ Wrong k = reads_is _ _ (sym (run_stop (suc n) b i t) ∙ e) in absurd (cc)
+
+  -- ---- a misfit
+
+  pub record Met (x : Misfit) : Type 0 where
+    pub before : List A
+    pub at : ℕ
+    pub part : A
+    pub end : ℕ
+    pub stand : Stand before at
+    pub fit : FitAll before
+    pub is_part : Q s part at end
+    pub mis : Mis part x
+
+  one_misfit : (b : List A) (i : ℕ) (x : Misfit) → Stand b i → FitAll b → one i ≡ Misfits x → Met x
+  one_misfit b i x st fit e = of (then_misfit (Reads (item s i)) check x e)
+    where
+      of : ((c : A) × (m : ℕ) × (Reads (item s i) ≡ Reads (Found c m)) × (check c m ≡ Misfits x)) ⊎ (Reads (item s i) ≡ Misfits x) → Met x
+      of (inl w) = record { before = b; at = i; part = w.0; end = w.1; stand = st; fit = fit; is_part = u.laws.sound s i w.0 w.1 (reads_is _ _ w.2); mis = u.check_misfit w.0 w.1 x w.3 }
+      of (inr e) = absurd (cc)
+
+  pub misfit : (n : ℕ) (b : List A) (i : ℕ) (x : Misfit) → Stand b i → FitAll b → run n b i ≡ Misfits x → Met x
+  misfit zero b i x st fit e = of (cases_of (test (terminal (s i))))
+    where
+      no_over : (r : Checked (List A)) → r ≡ Misfits x → IsOverChecked r → ⊥
+      no_over (Reads r) e h = absurd (cc)
+      no_over (Misfits y) e h = h
+
+      of : (test (terminal (s i)) ≡ true) ⊎ (test (terminal (s i)) ≡ false) → Met x
+      of (inl t) = absurd (no_over (run zero b i) e (run_zero b i t))
+      of (inr t) = let same : Reads (Found b i) ≡ Misfits x = sym (run_stop zero b i t) ∙ e in absurd (cc)
+  misfit (suc n) b i x st fit e = of (λ b i st fit e. misfit n b i x st fit e) (cases_of (test (terminal (s i))))
+    where
+      turn : ((b : List A) (i : ℕ) → Stand b i → FitAll b → run n b i ≡ Misfits x → Met x) → ((a : A) × (m : ℕ) × (one i ≡ Reads (Found a m)) × (rest n b a m ≡ Misfits x)) ⊎ (one i ≡ Misfits x) → Met x
+      turn again (inl w) =
+          let k = one_found i w.0 w.1 w.2 in
+          again (b ++ w.0 ∷ []) w.1 (u.next b w.0 i w.1 st (u.laws.sound s i w.0 w.1 k.0)) (u.fit_end b w.0 fit k.1) w.3
+      turn again (inr e) = one_misfit b i x st fit e
+
+      of : ((b : List A) (i : ℕ) → Stand b i → FitAll b → run n b i ≡ Misfits x → Met x) → (test (terminal (s i)) ≡ true) ⊎ (test (terminal (s i)) ≡ false) → Met x
+      of again (inl t) = turn again (then_misfit (one i) (rest n b) x (sym (run_turn n b i t) ∙ e))
+      of again (inr t) = let same : Reads (Found b i) ≡ Misfits x = sym (run_stop (suc n) b i t) ∙ e in absurd (cc)
+
+  -- ---- too deep
+
+  -- a loop only adds to what it has
+  grows : (n : ℕ) (b : List A) (i : ℕ) (c : List A) (j : ℕ) → plain n b i ≡ Found c j → Tall b → Tall c
+  grows zero b i c j e h = of (cases_of (test (terminal (s i))))
+    where
+      no_over : (r : Answer (List A)) → r ≡ Found c j → IsOver r → ⊥
+      no_over (Found x k) e h = h
+      no_over (Wrong k) e h = h
+      no_over (Over k) e h = absurd (cc)
+
+      of : (test (terminal (s i)) ≡ true) ⊎ (test (terminal (s i)) ≡ false) → Tall c
+      of (inl t) = absurd (no_over (plain zero b i) e (plain_zero b i t))
+      of (inr t) = let same : Found b i ≡ Found c j = sym (plain_stop zero b i t) ∙ e in let is : b ≡ c = cc in subst Tall is h
+  grows (suc n) b i c j e h = of (λ b i e h. grows n b i c j e h) (cases_of (test (terminal (s i))))
+    where
+      of : ((b : List A) (i : ℕ) → plain n b i ≡ Found c j → Tall b → Tall c) → (test (terminal (s i)) ≡ true) ⊎ (test (terminal (s i)) ≡ false) → Tall c
+      of again (inl t) = let w = laws_of.and_then_found (item s i) (λ a j. plain n (b ++ a ∷ []) j) c j (sym (plain_turn n b i t) ∙ e) in again (b ++ w.0 ∷ []) w.1 w.3 (u.tall_before b w.0 h)
+      of again (inr t) = let same : Found b i ≡ Found c j = sym (plain_stop (suc n) b i t) ∙ e in let is : b ≡ c = cc in subst Tall is h
+
+  no_found_over : (r : Answer (List A)) (c : List A) (j : ℕ) → r ≡ Found c j → IsOver r → ⊥
+  no_found_over (Found x k) c j e h = h
+  no_found_over (Wrong k) c j e h = h
+  no_found_over (Over k) c j e h = absurd (cc)
+
+  -- where the checked reading passes a limit, and the other does not, a part is too deep
+  pub deep : (n : ℕ) (b : List A) (i : ℕ) (c : List A) (j : ℕ) → IsOverChecked (run n b i) → plain n b i ≡ Found c j → Tall c
+  deep zero b i c j h e = of (cases_of (test (terminal (s i))))
+    where
+      of : (test (terminal (s i)) ≡ true) ⊎ (test (terminal (s i)) ≡ false) → Tall c
+      of (inl t) = absurd (no_found_over (plain zero b i) c j e (plain_zero b i t))
+      of (inr t) = absurd (subst IsOverChecked (run_stop zero b i t) h)
+  deep (suc n) b i c j h e = of (λ b i h e. deep n b i c j h e) (cases_of (test (terminal (s i))))
+    where
+      same_part : (a d : A) (m k : ℕ) → Found a m ≡ Found d k → (a ≡ d) × (m ≡ k)
+      same_part a d m k e = (cc, ap laws_of.stop e)
+
+      turn : ((b : List A) (i : ℕ) → IsOverChecked (run n b i) → plain n b i ≡ Found c j → Tall c) → (w : (a : A) × (m : ℕ) × (item s i ≡ Found a m) × (plain n (b ++ a ∷ []) m ≡ Found c j)) → ((a : A) × (m : ℕ) × (one i ≡ Reads (Found a m)) × IsOverChecked (rest n b a m)) ⊎ IsOverChecked (one i) → Tall c
+      turn again w (inl v) =
+          let k = one_found i v.0 v.1 v.2 in
+          let z = same_part v.0 w.0 v.1 w.1 (sym k.0 ∙ w.2) in
+          again (b ++ w.0 ∷ []) w.1 (subst (λ (m : ℕ). IsOverChecked (run n (b ++ w.0 ∷ []) m)) z.1 (subst (λ (a : A). IsOverChecked (run n (b ++ a ∷ []) v.1)) z.0 v.3)) w.3
+      turn again w (inr o) =
+          grows n (b ++ w.0 ∷ []) w.1 c j w.3 (u.tall_last b w.0 (u.check_over w.0 w.1 (subst (λ (r : Answer A). IsOverChecked (then_checked (Reads r) check)) w.2 o)))
+
+      of : ((b : List A) (i : ℕ) → IsOverChecked (run n b i) → plain n b i ≡ Found c j → Tall c) → (test (terminal (s i)) ≡ true) ⊎ (test (terminal (s i)) ≡ false) → Tall c
+      of again (inl t) = turn again (laws_of.and_then_found (item s i) (λ a j. plain n (b ++ a ∷ []) j) c j (sym (plain_turn n b i t) ∙ e)) (then_over (one i) (rest n b) (subst IsOverChecked (run_turn n b i t) h))
+      of again (inr t) = absurd (subst IsOverChecked (run_stop (suc n) b i t) h)
+
+  -- ---- all fit
+
+  back_fits : (n : ℕ) (b : List A) (i : ℕ) (c : List A) (j : ℕ) → plain n b i ≡ Found c j → FitAll c → FitAll b
+  back_fits zero b i c j e h = of (cases_of (test (terminal (s i))))
+    where
+      of : (test (terminal (s i)) ≡ true) ⊎ (test (terminal (s i)) ≡ false) → FitAll b
+      of (inl t) = absurd (no_found_over (plain zero b i) c j e (plain_zero b i t))
+      of (inr t) = let same : Found b i ≡ Found c j = sym (plain_stop zero b i t) ∙ e in let is : c ≡ b = cc in subst FitAll is h
+  back_fits (suc n) b i c j e h = of (λ b i e h. back_fits n b i c j e h) (cases_of (test (terminal (s i))))
+    where
+      of : ((b : List A) (i : ℕ) → plain n b i ≡ Found c j → FitAll c → FitAll b) → (test (terminal (s i)) ≡ true) ⊎ (test (terminal (s i)) ≡ false) → FitAll b
+      of again (inl t) = let w = laws_of.and_then_found (item s i) (λ a j. plain n (b ++ a ∷ []) j) c j (sym (plain_turn n b i t) ∙ e) in u.fit_before b w.0 (again (b ++ w.0 ∷ []) w.1 w.3 h)
+      of again (inr t) = let same : Found b i ≡ Found c j = sym (plain_stop (suc n) b i t) ∙ e in let is : c ≡ b = cc in subst FitAll is h
+
+  -- what is read and fits is read with its checks, too
+  pub all_fit : (n : ℕ) (b : List A) (i : ℕ) (c : List A) (j : ℕ) → plain n b i ≡ Found c j → FitAll c → run n b i ≡ Reads (Found c j)
+  all_fit zero b i c j e h = of (cases_of (test (terminal (s i))))
+    where
+      of : (test (terminal (s i)) ≡ true) ⊎ (test (terminal (s i)) ≡ false) → run zero b i ≡ Reads (Found c j)
+      of (inl t) = absurd (no_found_over (plain zero b i) c j e (plain_zero b i t))
+      of (inr t) = run_stop zero b i t ∙ ap Reads (sym (plain_stop zero b i t) ∙ e)
+  all_fit (suc n) b i c j e h = of (λ b i e h. all_fit n b i c j e h) (cases_of (test (terminal (s i))))
+    where
+      of : ((b : List A) (i : ℕ) → plain n b i ≡ Found c j → FitAll c → run n b i ≡ Reads (Found c j)) → (test (terminal (s i)) ≡ true) ⊎ (test (terminal (s i)) ≡ false) → run (suc n) b i ≡ Reads (Found c j)
+      of again (inl t) =
+          let w = laws_of.and_then_found (item s i) (λ a j. plain n (b ++ a ∷ []) j) c j (sym (plain_turn n b i t) ∙ e) in
+          let fits = u.fit_last b w.0 (back_fits n (b ++ w.0 ∷ []) w.1 c j w.3 h) in
+          run_turn n b i t
+          ∙ (ap (λ (r : Answer A). then_checked (then_checked (Reads r) check) (rest n b)) w.2
+          ∙ (ap (λ (r : Checked A). then_checked r (rest n b)) (u.check_fit w.0 w.1 fits)
+          ∙ again (b ++ w.0 ∷ []) w.1 w.3 h))
+      of again (inr t) = run_stop (suc n) b i t ∙ ap Reads (sym (plain_stop (suc n) b i t) ∙ e)
+
+  -- ---- a part that does not fit is met
+
+  abbrev pub Item : List A → Rel (List A)
+  Item b = Then Q (λ c. Same (b ++ c ∷ []))
+
+  -- a part that stands is read, or the limit is passed
+  one_stands : (a : A) (i j : ℕ) → Q s a i j → (item s i ≡ Found a j) ⊎ IsOver (item s i)
+  one_stands a i j d = of (u.laws.complete s i a j d tt)
+    where
+      of : Outcome most T (item s i) a i j → (item s i ≡ Found a j) ⊎ IsOver (item s i)
+      of (inl e) = inl e
+      of (inr x) = inr (over_is (item s i) x.0)
+        where
+          over_is : (r : Answer A) → laws_of.IsOver r → IsOver r
+          over_is (Found a j) h = absurd h
+          over_is (Wrong k) h = absurd h
+          over_is (Over k) h = tt
+
+  halted_over : (i : ℕ) → IsOver (item s i) → IsHalted (one i)
+  halted_over i h = then_halted (Reads (item s i)) check (over_halted (item s i) h)
+
+  pub met : (n : ℕ) (b c : List A) (a : A) (i m j : ℕ) (x : Misfit) → Steps Item s b c i m → Q s a m j → Mis a x → IsHalted (run n b i)
+  met zero b c a i m j x (done e at) d mis =
+      over_checked_halted (run zero b i) (run_zero b i (u.begins a i j (subst (λ (k : ℕ). Q s a k j) at d)))
+  met zero b c a i m j x (more {y} {m = k} q r) d mis = over_checked_halted (run zero b i) (run_zero b i (u.begins q.part i q.at q.first))
+  met (suc n) b c a i m j x (done e at) d mis = subst IsHalted (sym (run_turn n b i (u.begins a i j here))) (of (one_stands a i j here))
+    where
+      here : Q s a i j
+      here = subst (λ (k : ℕ). Q s a k j) at d
+
+      of : (item s i ≡ Found a j) ⊎ IsOver (item s i) → IsHalted (then_checked (one i) (rest n b))
+      of (inl is) = then_halted (one i) (rest n b) (subst (λ (r : Answer A). IsHalted (then_checked (Reads r) check)) (sym is) (u.check_met a j x mis))
+      of (inr o) = then_halted (one i) (rest n b) (halted_over i o)
+  met (suc n) b c a i m j x (more {y} {m = k} q r) d mis = subst IsHalted (sym (run_turn n b i (u.begins q.part i q.at q.first)))
+      (of (subst (λ (z : ℕ). IsHalted (run n (b ++ q.part ∷ []) z)) q.rest.at (subst (λ (z : List A). IsHalted (run n z k)) q.rest.tree (met n y c a k m j x r d mis))) (one_stands q.part i q.at q.first))
+    where
+      checked : IsHalted (rest n b q.part q.at) → (r : Checked A) → check q.part q.at ≡ r → IsHalted (then_checked r (rest n b))
+      checked later (Reads (Found z l)) e =
+          let w = u.check_found q.part z q.at l e in
+          subst (λ (l : ℕ). IsHalted (rest n b z l)) (sym w.1) (subst (λ (z : A). IsHalted (rest n b z q.at)) (sym w.0) later)
+      checked later (Reads (Wrong l)) e = absurd (u.check_wrong q.part q.at l e)
+      checked later (Reads (Over l)) e = tt
+      checked later (Misfits z) e = tt
+
+      of : IsHalted (rest n b q.part q.at) → (item s i ≡ Found q.part q.at) ⊎ IsOver (item s i) → IsHalted (then_checked (one i) (rest n b))
+      of later (inl is) = subst (λ (r : Answer A). IsHalted (then_checked (then_checked (Reads r) check) (rest n b))) (sym is) (checked later (check q.part q.at) refl)
+      of later (inr o) = then_halted (one i) (rest n b) (halted_over i o)

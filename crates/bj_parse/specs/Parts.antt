@@ -1,0 +1,54 @@
+-- What the functions that read the parts of a file come to, on some tokens.
+use Rattle.std.specs.Prelude.{◌≡◌, ℕ, List, [], ◌∷◌, ◌++◌, Option, Some, None}
+use Rattle.bj_lex.specs.declared.token.Token.{Token}
+use Rattle.bj_tree.specs.declared.class.ImportTree.{ImportTree}
+use Rattle.bj_tree.specs.declared.class.ClassTree.{ClassTree}
+use Rattle.bj_tree.specs.declared.member.MemberTree.{MemberTree}
+use Rattle.bj_grammar.specs.declared.terminal.Terminal.TheVariants as t
+use Rattle.bj_grammar.specs.Reader.{Found}
+use Rattle.bj_grammar.specs.Given.{text_of, place_of}
+use Rattle.bj_expr.specs.declared.bounds.Bounds.{Bounds}
+use Rattle.bj_expr.specs.Reading.{is}
+use Rattle.bj_stmt.specs.Reading.{inside}
+use Rattle.bj_class.specs.declared.head.ClassHead.{ClassHead}
+use Rattle.bj_class.specs.Reading as r
+use Rattle.bj_parse.specs.Checked.{Checked, Reads, Misfits, then_checked, checked_items, check_import, check_head, check_member, closed, checked_body, HaltsAs}
+use Rattle.bj_parse.specs.Line.{most_nodes}
+use Rattle.bj_parse.specs.declared.halt.Halt.{Halt}
+
+abbrev pub one_import : List Token → Bounds → ℕ → Checked ImportTree
+one_import tokens bounds i = then_checked (Reads (r.import_at (place_of tokens) bounds.most (text_of tokens) i)) check_import
+
+abbrev pub next_import : List Token → Bounds → List ImportTree → ℕ → Checked (List ImportTree)
+next_import tokens bounds b i = then_checked (one_import tokens bounds i) (λ a j. Reads (Found (b ++ a ∷ []) j))
+
+abbrev pub imports_of : List Token → Bounds → ℕ → List ImportTree → ℕ → Checked (List ImportTree)
+imports_of tokens bounds = checked_items (is t.Import) (r.import_at (place_of tokens) bounds.most) check_import (text_of tokens)
+
+-- why a member that was read up to a place is not taken, if it is not
+abbrev pub IsMemberHalt : ClassHead → MemberTree → ℕ → Option Halt → Type 0
+IsMemberHalt h a j None = check_member most_nodes h a j ≡ Reads (Found a j)
+IsMemberHalt h a j (Some halt) = HaltsAs halt (check_member most_nodes h a j)
+
+abbrev pub one_member : List Token → Bounds → ClassHead → ℕ → Checked MemberTree
+one_member tokens bounds h i = then_checked (Reads (r.member (place_of tokens) bounds.most bounds.room (text_of tokens) i)) (check_member bounds.room h)
+
+abbrev pub next_member : List Token → Bounds → ClassHead → List MemberTree → ℕ → Checked (List MemberTree)
+next_member tokens bounds h b i = then_checked (one_member tokens bounds h i) (λ a j. Reads (Found (b ++ a ∷ []) j))
+
+abbrev pub members_of : List Token → Bounds → ClassHead → ℕ → List MemberTree → ℕ → Checked (List MemberTree)
+members_of tokens bounds h = checked_items inside (r.member (place_of tokens) bounds.most bounds.room) (check_member bounds.room h) (text_of tokens)
+
+abbrev pub one_head : List Token → Bounds → ℕ → Checked ClassHead
+one_head tokens bounds i = then_checked (Reads (r.head (place_of tokens) bounds.most (text_of tokens) i)) check_head
+
+-- the closing brace, behind all members
+abbrev pub closing : List Token → List ℕ → List ImportTree → ClassHead → List MemberTree → ℕ → Checked ClassTree
+closing tokens class is h ms n = Reads (closed (place_of tokens) 0 0 class is h ms (text_of tokens) n)
+
+abbrev pub body_of : List Token → Bounds → List ℕ → List ImportTree → ClassHead → ℕ → Checked ClassTree
+body_of tokens bounds class is h i = checked_body (place_of tokens) bounds.most bounds.room class is h (text_of tokens) i
+
+-- a class behind the imports of its file
+abbrev pub class_behind : List Token → Bounds → List ℕ → List ImportTree → ℕ → Checked ClassTree
+class_behind tokens bounds class is i = then_checked (one_head tokens bounds i) (λ h n. body_of tokens bounds class is h n)

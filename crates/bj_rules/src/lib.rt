@@ -1,0 +1,28 @@
+//! What the profile's Java asks of imports, of what stands before the members of a class, and of members, beyond the grammar.
+#![tactic(auto)]
+
+mod annotation;
+mod head;
+mod import;
+mod laws;
+mod mark;
+mod member;
+mod misfit;
+mod modifier;
+mod place;
+mod size;
+mod start;
+#[cfg(test)]
+mod tests;
+mod words;
+
+pub use head::head_misfit;
+pub use import::import_misfit;
+pub use laws::{
+    fit_modifiers_have_no_misfit, misfits_are_of_the_first_that_does_not_fit,
+    modifiers_without_misfit_fit,
+};
+pub use member::member_misfit;
+pub use misfit::Misfit;
+pub use modifier::modifiers_misfit;
+pub use place::Place;
