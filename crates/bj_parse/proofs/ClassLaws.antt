@@ -157,7 +157,7 @@ module _ (tokens : Tokens) where
   refused_fault e refusals.NoMemory h is = tt
   refused_fault (halts.Stopped stops.Memory) (refusals.Fault f) h is = absurd is
   refused_fault (halts.Stopped (stops.Syntax at)) (refusals.Fault f) h is = (is.0, inr (inr (moved f.at (spot tokens at) f.code _ is.1 is.2 (stuck_first at h))))
-  refused_fault (halts.Stopped (stops.Deep at)) (refusals.Fault f) h is = (is.0, inl (is.2, too_deep h))
+  refused_fault (halts.Stopped (stops.Deep at)) (refusals.Fault f) h is = (is.0, inl (is.2, h, too_deep h))
   refused_fault (halts.Unfit x) (refusals.Fault f) h is = (is.0, inr (inl (told x f.at f.code is.1 is.2 (file.file_misfit items steps most_nodes p tokens.class x h))))
 
   pub behind_fault : (a : ClassTree) (at : ℕ) (r : Refusal) → the_file tokens ≡ Reads (Found a at) → at < length items

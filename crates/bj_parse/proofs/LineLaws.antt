@@ -154,13 +154,13 @@ module _ (tokens : List Token) where
   -- ---- too deep
 
   pub deep_both : DeepExpression → DeepStatements → TooDeep tokens
-  deep_both x y = record { expression = deep_expression x; statements = deep_statements y }
+  deep_both x y = record { passes = inl x; expression = deep_expression x; statements = deep_statements y }
 
   pub deep_first : DeepExpression → (m : ℕ) → IsStuck tokens (as_statements tokens) m → TooDeep tokens
-  deep_first x m y = record { expression = deep_expression x; statements = λ b d. absurd (stuck_statements m y b d) }
+  deep_first x m y = record { passes = inl x; expression = deep_expression x; statements = λ b d. absurd (stuck_statements m y b d) }
 
   pub deep_second : (k : ℕ) → IsStuck tokens (as_expression tokens) k → DeepStatements → TooDeep tokens
-  deep_second k x y = record { expression = λ a d. absurd (stuck_expression k x a d); statements = deep_statements y }
+  deep_second k x y = record { passes = inr y; expression = λ a d. absurd (stuck_expression k x a d); statements = deep_statements y }
 
   -- ---- as the code reads them
 

@@ -130,7 +130,7 @@ abbrev pub ClassFault : Result ClassTree Refusal → Tokens → Type 0
 ClassFault (Ok tree) tokens = Unit {0}
 ClassFault (Err refusals.NoMemory) tokens = Unit {0}
 ClassFault (Err (refusals.Fault fault)) tokens = (fault.class ≡ tokens.class)
-    × (((fault.code ≡ codes.Deep) × TooDeep tokens.class tokens.items) ⊎ (FirstMisfit tokens.items (record { at = fault.at; code = fault.code }) ⊎ IsFirst tokens fault.at fault.code))
+    × (((fault.code ≡ codes.Deep) × IsOverChecked (the_file tokens) × TooDeep tokens.class tokens.items) ⊎ (FirstMisfit tokens.items (record { at = fault.at; code = fault.code }) ⊎ IsFirst tokens fault.at fault.code))
 
 -- the refusal is of what reading halts at, unless memory ran out
 abbrev pub IsRefusalOf : Tokens → Halt → Refusal → Type 0

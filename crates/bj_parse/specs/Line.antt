@@ -66,11 +66,6 @@ pub record FirstFault (tokens : List Token) (at : ℕ) : Type 0 where
   pub begins : (others : List Token) × (at ≤ length others) × SameBefore tokens others at × InGrammar tokens others
   pub no_more : (others : List Token) → SameBefore tokens others (suc at) → InGrammar tokens others → ⊥
 
--- A node of each line that the tokens are has more than 200 nodes above it.
-pub record TooDeep (tokens : List Token) : Type 0 where
-  pub expression : (a : ExprTree) → IsExpression tokens tokens a → most_nodes < height_of a
-  pub statements : (b : List StmtTree) → AreStatements tokens tokens b → most_nodes < line_height b
-
 -- ---- what the two readers give
 
 abbrev pub line_bounds : List Token → Bounds
@@ -108,6 +103,17 @@ IsStatementsOutcome tokens x = ComesTo HighStatements tokens (as_statements toke
 -- an expression goes too deep
 abbrev pub GoesTooDeep : List Token → Type 0
 GoesTooDeep tokens = IsOver (as_expression tokens) ⊎ ((a : ExprTree) × (as_expression tokens ≡ Found a (length tokens)) × HighExpression a)
+
+-- statements go too deep
+abbrev pub StatementsGoTooDeep : List Token → Type 0
+StatementsGoTooDeep tokens = IsOver (as_statements tokens) ⊎ ((b : List StmtTree) × (as_statements tokens ≡ Found b (length tokens)) × HighStatements b)
+
+-- Reading the tokens as an expression or as statements passes the limit of depth, and a node of each line that they are has more
+-- than 200 nodes above it.
+pub record TooDeep (tokens : List Token) : Type 0 where
+  pub passes : GoesTooDeep tokens ⊎ StatementsGoTooDeep tokens
+  pub expression : (a : ExprTree) → IsExpression tokens tokens a → most_nodes < height_of a
+  pub statements : (b : List StmtTree) → AreStatements tokens tokens b → most_nodes < line_height b
 
 -- ---- what reading promises
 

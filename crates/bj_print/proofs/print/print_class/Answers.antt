@@ -1,0 +1,7 @@
+use Rattle.std.proofs.Common.{ℕ, List, sym, subst}
+use Rattle.bj_print.specs.Printed.{ReadsAsClass}
+use Rattle.bj_print.proofs.ClassReadBack.{class_reads_back}
+use Rattle.bj_print.proofs.print.print_class.Goals as goal
+
+pub returns-clause-reads_back : goal.returns-clause-reads_back
+returns-clause-reads_back c bytes l = subst (λ (units : List ℕ). ReadsAsClass units c.args.tree.now) (sym c.in_ok-units.ensures) (class_reads_back c.args.tree.now bytes l)

@@ -1,0 +1,3 @@
+-- Texts that are written token by token.
+pub mod Pieces
+pub mod Tokens

@@ -1,0 +1,10 @@
+//! Texts that are written token by token.
+#![tactic(auto)]
+
+mod law;
+#[cfg(test)]
+mod tests;
+mod writer;
+
+pub use law::written_tokens_are_read;
+pub use writer::{Last, Writer};
