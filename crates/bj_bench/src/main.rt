@@ -1,12 +1,15 @@
-//! What the benchmark of the reader of files runs: it reads a file of Java from its input, and its status tells whether that is a class.
+//! What the benchmark of the reader and the printer of files runs: it reads a file of Java from its input, and its status tells whether that
+//! is a class. With the word `print` behind its name it also prints the class, into memory alone.
 #![tactic(auto)]
 
 use bj_core::{Name, NoMemory, Refusal};
 use bj_io::{Poll, Reading, Source};
 use bj_lex::{Tokens, tokens};
 use bj_parse::class_of;
+use bj_print::print_class;
 use bj_tree::ClassTree;
 use std::alloc::Global;
+use std::env;
 use std::process::ExitCode;
 
 /// The status where the text is a class.
@@ -47,12 +50,21 @@ fn read_all<S: Source>(alloc: Global, source: &mut S) -> Result<Vec<u8>, NoMemor
     Ok(text)
 }
 
+/// The status for a class, which is printed where that is asked.
+fn status_of_class(alloc: Global, tree: &ClassTree, prints: bool) -> u8 {
+    if prints && print_class(alloc, tree).is_err() {
+        return NO_MEMORY;
+    }
+    CLASS
+}
+
 /// The status for the tokens of a text.
-fn status_of(alloc: Global, tokens: &Tokens) -> u8 {
+fn status_of(alloc: Global, tokens: &Tokens, prints: bool) -> u8 {
     match class_of(alloc, tokens) {
         Ok(tree) => {
+            let status = status_of_class(alloc, &tree, prints);
             let_go(tree);
-            CLASS
+            status
         }
         Err(Refusal::Fault(_)) => FAULT,
         Err(Refusal::NoMemory) => NO_MEMORY,
@@ -60,7 +72,7 @@ fn status_of(alloc: Global, tokens: &Tokens) -> u8 {
 }
 
 /// The status for a text.
-fn status_in(alloc: Global, text: &[u8]) -> u8 {
+fn status_in(alloc: Global, text: &[u8], prints: bool) -> u8 {
     if text.len() > MOST_BYTES {
         return NO_MEMORY;
     }
@@ -69,16 +81,28 @@ fn status_in(alloc: Global, text: &[u8]) -> u8 {
         Err(_) => return NO_MEMORY,
     };
     match tokens(alloc, &class, text) {
-        Ok(read) => status_of(alloc, &read),
+        Ok(read) => status_of(alloc, &read, prints),
         Err(Refusal::Fault(_)) => FAULT,
         Err(Refusal::NoMemory) => NO_MEMORY,
     }
 }
 
+/// Whether the first word behind the program's name is `print`.
+fn is_to_print(rt: &HostRuntime) -> bool {
+    match env::args(rt) {
+        Ok(args) => match args.skip(1).next() {
+            Some(word) => word.as_str() == "print",
+            None => false,
+        },
+        Err(_) => false,
+    }
+}
+
 fn main(rt: HostRuntime) -> ExitCode {
+    let prints = is_to_print(&rt);
     let mut source = Reading::new(rt.reader());
     match read_all(rt.alloc(), &mut source) {
-        Ok(text) => ExitCode::from(status_in(rt.alloc(), text.as_slice())),
+        Ok(text) => ExitCode::from(status_in(rt.alloc(), text.as_slice(), prints)),
         Err(_) => ExitCode::from(NO_MEMORY),
     }
 }

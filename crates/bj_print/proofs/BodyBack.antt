@@ -2,9 +2,8 @@
 use Rattle.std.proofs.Common.{◌≡◌, ℕ, List, [], ◌∷◌, ◌++◌, map, Option, Some, None, refl, sym, ap, ◌∙◌, subst}
 use Rattle.std.specs.Prelude.{codes, option_map}
 use Rattle.bj_core.specs.declared.types.Span.{Span}
-use Rattle.bj_lex.specs.declared.token.TokenKind.TheVariants as kinds
 use Rattle.bj_lex.specs.Grammar.{Spelled}
-use Rattle.bj_tree.specs.declared.stmt.StmtTree.{StmtTree}
+use Rattle.bj_tree.specs.declared.stmt.StmtTree.{StmtTree, StmtTree-F, out-StmtTree, out-roll-StmtTree}
 use Rattle.bj_tree.specs.declared.stmt.StmtTree.TheVariants as stmt
 use Rattle.bj_grammar.specs.Reader.{Text}
 use Rattle.bj_stmt.specs.Grammar as stmts
@@ -14,16 +13,21 @@ use Rattle.bj_class.specs.Grammar.{MaybeBody}
 use Rattle.bj_writer.specs.Pieces.{Space, Line, tokens_of}
 use Rattle.bj_print.specs.Exprs.{sign}
 use Rattle.bj_print.specs.Stmts.{stmt_pieces}
-use Rattle.bj_print.specs.Classes.{each, statement_line, lines_in_braces, body_pieces, maybe_body}
+use Rattle.bj_print.specs.Classes.{each, statement_line, lines_in_braces, body_pieces, body_form, maybe_body}
 use Rattle.bj_print.specs.Same.{unplaced_stmt, SameStmt}
-use Rattle.bj_print.proofs.Holds.{Back, terminal_is, tokens_append}
+use Rattle.bj_print.proofs.Holds.{Back, tokens_append}
 use Rattle.bj_print.proofs.ExprTokens.{signed}
 use Rattle.bj_print.proofs.StmtPieces.{line_pieces, block_pieces}
 use Rattle.bj_print.proofs.StmtLaws.{StmtLaws}
-use Rattle.bj_print.proofs.Bodies.{body_of_block}
 use Rattle.bj_print.proofs.Again.{Reads, reads_last, reads_as, respelled}
 
--- ---- the tokens of a block are the same on one line
+-- ---- a block is printed with a statement a line, and its tokens are the same on one line
+
+block_form : (at : Span) (body : List StmtTree) (end : Span) → out-StmtTree (stmt.Block at body end) ≡ StmtTree-F.Block at body end
+block_form at body end = ap out-StmtTree (sym (stmt.rolls-Block at body end)) ∙ out-roll-StmtTree (StmtTree-F.Block at body end)
+
+pub body_of_block : (at : Span) (body : List StmtTree) (end : Span) → body_pieces (stmt.Block at body end) ≡ lines_in_braces body
+body_of_block at body end = ap (body_form (stmt.Block at body end)) (block_form at body end)
 
 lines_tokens : (xs : List StmtTree) → tokens_of (each (map statement_line xs)) ≡ tokens_of (line_pieces xs)
 lines_tokens [] = refl
@@ -68,7 +72,7 @@ module _ (place : ℕ → Span) (s : Text) (other : ℕ → Span) (t : Text) (la
   pub maybe_body_again : {a : Option StmtTree} {i j : ℕ} → MaybeBody place s a i j → FoundMaybe other t a
   maybe_body_again (g.no_body o is at) = subst (FoundMaybe other t) (sym is) (reads_as (reads_last (signed (codes ";"))) (λ k j f. record {
     tree = None;
-    stands = g.no_body (terminal_is (t k) kinds.Sign (codes ";") f.token) refl f.rest;
+    stands = g.no_body f.is refl f.rest;
     same = refl;
   }))
   maybe_body_again (g.body d is) = subst (FoundMaybe other t) (sym is) (reads_as (block_again d) (λ k j f. record {

@@ -1,22 +1,17 @@
 -- A class that is the same but for places fits where the other one does, and is no deeper.
-use Rattle.std.proofs.Common.{◌≡◌, ℕ, suc, ◌<◌, List, [], ◌∷◌, map, Option, Some, None, option_map, unwrap_or, inl, inr, refl, sym, ap, ◌∙◌, subst}
-use Rattle.bj_tree.specs.declared.expr.ExprTree.{ExprTree}
-use Rattle.bj_tree.specs.declared.stmt.VariableTree.{VariableTree}
+use Rattle.std.proofs.Common.{ℕ, suc, ◌<◌, List, [], ◌∷◌, map, Option, Some, None, option_map, inl, inr, sym, ap, ◌∙◌, subst}
 use Rattle.bj_tree.specs.declared.stmt.StmtTree.{StmtTree}
 use Rattle.bj_tree.specs.declared.class.ClassKind.{ClassKind}
 use Rattle.bj_tree.specs.declared.class.ImportTree.{ImportTree}
 use Rattle.bj_tree.specs.declared.class.ClassTree.{ClassTree}
 use Rattle.bj_tree.specs.declared.member.MemberTree.{MemberTree}
 use Rattle.bj_tree.specs.declared.member.MemberTree.TheVariants as m
-use Rattle.bj_tree.specs.Size.{most, height_of}
-use Rattle.bj_stmt.specs.Heights.{stmt_height, variable_height}
+use Rattle.bj_tree.specs.Size.{most}
 use Rattle.bj_class.specs.Deep.{DeepBody, DeepMember, DeepMembers}
 use Rattle.bj_rules.specs.Rules.{import_misfit, head_misfit, member_misfit}
 use Rattle.bj_parse.specs.Class.{ImportsFit, MembersFit, Fits}
-use Rattle.bj_print.specs.Same.{unplaced_expr, unplaced_stmt, unplaced_variable, unplaced_modifier, unplaced_annotation, unplaced_import, unplaced_member, unplaced_class, SameClass}
-use Rattle.bj_print.proofs.Invariants.{unplaced_height, unplaced_nodes}
-use Rattle.bj_print.proofs.HeightsSteady.{height_steady}
-use Rattle.bj_print.proofs.NodesSteady.{nodes_steady}
+use Rattle.bj_print.specs.Same.{unplaced_stmt, unplaced_modifier, unplaced_annotation, unplaced_import, unplaced_member, unplaced_class, SameClass}
+use Rattle.bj_print.proofs.HeightsSteady.{of_variables, height_steady}
 use Rattle.bj_print.proofs.FitsSteady.{is_none, none_is, import_steady, head_steady, member_steady}
 
 -- ---- what fits
@@ -31,11 +26,11 @@ imports_back (x ∷ xs) f = (none_is (import_misfit x) (sym (import_steady x) �
 
 members_out : (kind : ClassKind) (class : List ℕ) (xs : List MemberTree) → MembersFit kind class xs → MembersFit kind class (map unplaced_member xs)
 members_out kind class [] f = tt
-members_out kind class (x ∷ xs) f = (none_is (member_misfit kind class (unplaced_member x)) (member_steady unplaced_nodes (nodes_steady unplaced_nodes) kind class x ∙ ap is_none f.0), members_out kind class xs f.1)
+members_out kind class (x ∷ xs) f = (none_is (member_misfit kind class (unplaced_member x)) (member_steady kind class x ∙ ap is_none f.0), members_out kind class xs f.1)
 
 members_back : (kind : ClassKind) (class : List ℕ) (xs : List MemberTree) → MembersFit kind class (map unplaced_member xs) → MembersFit kind class xs
 members_back kind class [] f = tt
-members_back kind class (x ∷ xs) f = (none_is (member_misfit kind class x) (sym (member_steady unplaced_nodes (nodes_steady unplaced_nodes) kind class x) ∙ ap is_none f.0), members_back kind class xs f.1)
+members_back kind class (x ∷ xs) f = (none_is (member_misfit kind class x) (sym (member_steady kind class x) ∙ ap is_none f.0), members_back kind class xs f.1)
 
 fits_out : (a : ClassTree) → Fits a → Fits (unplaced_class a)
 fits_out a f = record {
@@ -56,40 +51,26 @@ same_fits b a same f = fits_back b (subst Fits (sym same) (fits_out a f))
 
 -- ---- how deep
 
-variable_steady : (x : VariableTree) → variable_height (unplaced_variable x) ≡ variable_height x
-variable_steady x = of x.init
-  where
-    of : (init : Option ExprTree) → suc (unwrap_or (option_map height_of (option_map unplaced_expr init)) 0) ≡ suc (unwrap_or (option_map height_of init) 0)
-    of None = refl
-    of (Some y) = ap suc (unplaced_height y)
-
-variables_steady : (xs : List VariableTree) → map variable_height (map unplaced_variable xs) ≡ map variable_height xs
-variables_steady [] = refl
-variables_steady (x ∷ xs) = ap (λ (n : ℕ). n ∷ map variable_height (map unplaced_variable xs)) (variable_steady x) ∙ ap (λ (ns : List ℕ). variable_height x ∷ ns) (variables_steady xs)
-
-stmt_steady : (x : StmtTree) → stmt_height (unplaced_stmt x) ≡ stmt_height x
-stmt_steady = height_steady unplaced_height
-
 body_out : (room : ℕ) (x : Option StmtTree) → DeepBody room x → DeepBody room (option_map unplaced_stmt x)
 body_out room None d = d
-body_out room (Some x) d = subst (λ (n : ℕ). room < n) (sym (stmt_steady x)) d
+body_out room (Some x) d = subst (λ (n : ℕ). room < n) (sym (height_steady x)) d
 
 body_back : (room : ℕ) (x : Option StmtTree) → DeepBody room (option_map unplaced_stmt x) → DeepBody room x
 body_back room None d = d
-body_back room (Some x) d = subst (λ (n : ℕ). room < n) (stmt_steady x) d
+body_back room (Some x) d = subst (λ (n : ℕ). room < n) (height_steady x) d
 
 member_out : (room : ℕ) (x : MemberTree) → DeepMember room x → DeepMember room (unplaced_member x)
-member_out room (m.Field f) d = subst (λ (ns : List ℕ). suc room < most ns) (sym (variables_steady f.variables)) d
+member_out room (m.Field f) d = subst (λ (ns : List ℕ). suc room < most ns) (sym (of_variables f.variables)) d
 member_out room (m.Method f) d = body_out room f.body d
-member_out room (m.Constructor f) d = subst (λ (n : ℕ). room < n) (sym (stmt_steady f.body)) d
-member_out room (m.Initializer f) d = subst (λ (n : ℕ). room < n) (sym (stmt_steady f.body)) d
+member_out room (m.Constructor f) d = subst (λ (n : ℕ). room < n) (sym (height_steady f.body)) d
+member_out room (m.Initializer f) d = subst (λ (n : ℕ). room < n) (sym (height_steady f.body)) d
 member_out room (m.Empty at) d = d
 
 member_back : (room : ℕ) (x : MemberTree) → DeepMember room (unplaced_member x) → DeepMember room x
-member_back room (m.Field f) d = subst (λ (ns : List ℕ). suc room < most ns) (variables_steady f.variables) d
+member_back room (m.Field f) d = subst (λ (ns : List ℕ). suc room < most ns) (of_variables f.variables) d
 member_back room (m.Method f) d = body_back room f.body d
-member_back room (m.Constructor f) d = subst (λ (n : ℕ). room < n) (stmt_steady f.body) d
-member_back room (m.Initializer f) d = subst (λ (n : ℕ). room < n) (stmt_steady f.body) d
+member_back room (m.Constructor f) d = subst (λ (n : ℕ). room < n) (height_steady f.body) d
+member_back room (m.Initializer f) d = subst (λ (n : ℕ). room < n) (height_steady f.body) d
 member_back room (m.Empty at) d = d
 
 deep_out : (room : ℕ) (xs : List MemberTree) → DeepMembers room xs → DeepMembers room (map unplaced_member xs)

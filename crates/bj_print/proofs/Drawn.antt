@@ -1,5 +1,5 @@
 -- Pieces all of whose tokens have a property.
-use Rattle.std.proofs.Common.{◌≡◌, List, [], ◌∷◌, ◌++◌, map, sym, subst}
+use Rattle.std.proofs.Common.{◌≡◌, List, [], ◌∷◌, ◌++◌, map, refl, sym, subst}
 use Rattle.bj_lex.specs.Grammar.{Spelled}
 use Rattle.bj_writer.specs.Pieces.{Piece, Mark, Space, Line, tokens_of}
 use Rattle.bj_print.specs.Exprs.{each_behind, separated}
@@ -39,9 +39,18 @@ module _ (P : Spelled → Type 0) where
   -- ---- lists with one more at the end
 
   module _ {A : Type 0} (pieces : A → List Piece) where
-    pub drawn_end : (b : List A) (x : A) → AllDrawn (map pieces b) → Drawn (pieces x) → AllDrawn (map pieces (b ++ x ∷ []))
+    drawn_end : (b : List A) (x : A) → AllDrawn (map pieces b) → Drawn (pieces x) → AllDrawn (map pieces (b ++ x ∷ []))
     drawn_end [] x all one = (one, tt)
     drawn_end (y ∷ b) x all one = (all.0, drawn_end b x all.1 one)
+
+    pub all_none : (xs : List A) → xs ≡ [] → AllDrawn (map pieces xs)
+    all_none xs is = subst (λ (ys : List A). AllDrawn (map pieces ys)) (sym is) tt
+
+    pub all_one : (xs : List A) (x : A) → xs ≡ x ∷ [] → Drawn (pieces x) → AllDrawn (map pieces xs)
+    all_one xs x is d = subst (λ (ys : List A). AllDrawn (map pieces ys)) (sym is) (d, tt)
+
+    pub all_next : (xs b : List A) (x : A) → xs ≡ b ++ x ∷ [] → AllDrawn (map pieces b) → Drawn (pieces x) → AllDrawn (map pieces xs)
+    all_next xs b x is all d = subst (λ (ys : List A). AllDrawn (map pieces ys)) (sym is) (drawn_end b x all d)
 
     pub between_end : (between : List Piece) (b : List A) (x : A) → Drawn between → Between between (map pieces (b ++ x ∷ []))
     between_end between [] x d = tt
@@ -64,7 +73,7 @@ module _ {A : Type 0} (P : Spelled → Type 0) (pieces : A → List Piece) (betw
   rows_one xs x is d = subst (Rows P pieces between) (sym is) (record { each = (d, tt); betweens = tt })
 
   pub rows_next : (xs b : List A) (x : A) → xs ≡ b ++ x ∷ [] → Drawn P between → Rows P pieces between b → Drawn P (pieces x) → Rows P pieces between xs
-  rows_next xs b x is d rows one = subst (Rows P pieces between) (sym is) (record { each = drawn_end P pieces b x rows.each one; betweens = between_end P pieces between b x d })
+  rows_next xs b x is d rows one = subst (Rows P pieces between) (sym is) (record { each = all_next P pieces (b ++ x ∷ []) b x refl rows.each one; betweens = between_end P pieces between b x d })
 
 -- the tokens of such pieces
 abbrev pub AllTokens : (Spelled → Type 0) → List Spelled → Type 0

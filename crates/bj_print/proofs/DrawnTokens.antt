@@ -33,6 +33,9 @@ module _ (P : Spelled → Type 0) (s : Text) (given : (x : ℕ) → terminal (s 
   pub word_drawn : (x : ℕ) → terminal (s x) ≡ t.Word → P (kinds.Word, (s x).text)
   word_drawn x is = subst P (other_has (s x) t.Word kinds.Word is refl (λ e. cc)) (given x (λ e. cc))
 
+  pub comma_drawn : (x : ℕ) → terminal (s x) ≡ t.Comma → Drawn P print.comma
+  comma_drawn x is = (sign_drawn x t.Comma is refl (λ e. cc), tt)
+
   -- ---- operators
 
   -- a terminal that is printed as the sign

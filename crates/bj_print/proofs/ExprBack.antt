@@ -7,7 +7,8 @@ use Rattle.bj_grammar.specs.Terminal.{terminal}
 use Rattle.bj_expr.specs.Grammar as g
 use Rattle.bj_expr.specs.Grammar.{Expression, Conditional, Level, Unary, Plain, Postfix, Selected, Primary, Sizes, Values, Initializers, Initializer, Args, Exprs}
 use Rattle.bj_print.proofs.ExprLaws.{ExprLaws}
-use Rattle.bj_print.proofs.Found.{Found, FoundAll, lifted, lifted_all}
+use Rattle.bj_print.proofs.Found.{Found, FoundAll}
+use Rattle.bj_print.proofs.Again.{lifted}
 use Rattle.bj_print.proofs.TypeBack.{dims_again, type_again}
 use Rattle.bj_print.proofs.ListBack.{FoundSizes, FoundValues, exprs_some, initializers_some, one_expr, more_exprs, no_args, one_initializer, more_initializers, no_values, some_values, one_size_again, more_sizes_again}
 use Rattle.bj_print.proofs.PrimaryBack.{literal_found, this_found, paren_found, name_found, call_found, super_field_found, super_call_found, create_found, new_array_found, new_values_found, braces_found}
@@ -86,7 +87,7 @@ module _ (place : ℕ → Span) (s : Text) (other : ℕ → Span) (t : Text) whe
 
     args_again : {a : List ExprTree} {i j : ℕ} → Args place s a i j → FoundAll t (Args other t) a
     args_again (g.none is at) = no_args other t is
-    args_again (g.some all) = lifted_all (λ x k j. g.some) (exprs_again all)
+    args_again (g.some all) = lifted (λ x k j. g.some) (exprs_again all)
 
     exprs_again : {a : List ExprTree} {i j : ℕ} → Exprs place s a i j → FoundAll t (Exprs other t) a
     exprs_again (g.one d is) = one_expr other t (expression_again d) is

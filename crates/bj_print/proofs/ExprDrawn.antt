@@ -6,16 +6,14 @@ use Rattle.bj_lex.specs.declared.token.TokenKind.TheVariants as kinds
 use Rattle.bj_lex.specs.Grammar.{Spelled}
 use Rattle.bj_tree.specs.declared.expr.UnaryOp.TheVariants as unaries
 use Rattle.bj_tree.specs.declared.expr.ExprTree.{ExprTree}
-use Rattle.bj_grammar.specs.declared.terminal.Terminal.{Terminal}
 use Rattle.bj_grammar.specs.declared.terminal.Terminal.TheVariants as t
-use Rattle.bj_grammar.specs.Terminal.{terminal, keyword_spelling}
-use Rattle.bj_grammar.proofs.Terminals.{kind_for}
+use Rattle.bj_grammar.specs.Terminal.{terminal}
 use Rattle.bj_grammar.specs.Reader.{Text}
 use Rattle.bj_expr.specs.Grammar as g
 use Rattle.bj_expr.specs.Grammar.{Expression, Conditional, Level, Unary, Plain, Postfix, Selected, Primary, Sizes, Values, Initializers, Initializer, Args, Exprs, literal_kind, type_tree}
 use Rattle.bj_writer.specs.Pieces.{Piece, Space}
 use Rattle.bj_print.specs.Exprs.{expr_pieces, sign, comma, in_parens, in_brackets, in_braces, arguments, each_behind, with_commas, pairs, type_pieces}
-use Rattle.bj_print.proofs.Drawn.{Drawn, AllDrawn, both, drawn_end, Rows, rows_drawn, rows_none, rows_one, rows_next}
+use Rattle.bj_print.proofs.Drawn.{Drawn, AllDrawn, both, all_one, all_next, Rows, rows_drawn, rows_none, rows_one, rows_next}
 use Rattle.bj_print.proofs.DrawnTokens as drawn
 use Rattle.bj_print.proofs.ExprPieces as w
 use Rattle.bj_print.proofs.Holds.{spelling_of}
@@ -49,16 +47,7 @@ module _ (P : Spelled → Type 0) (place : ℕ → Span) (s : Text) (given : (x 
   dot_drawn : (x : ℕ) → terminal (s x) ≡ t.Dot → P (kinds.Sign, codes ".")
   dot_drawn x is = drawn.sign_drawn P s given x t.Dot is refl (λ e. cc)
 
-  key_drawn : (x : ℕ) (k : Terminal) → terminal (s x) ≡ k → kind_for k ≡ kinds.Keyword → k ≢ t.Other → P (kinds.Keyword, keyword_spelling k)
-  key_drawn = drawn.keyword_drawn P s given
-
-  word_of : (x : ℕ) → terminal (s x) ≡ t.Word → P (kinds.Word, (s x).text)
-  word_of = drawn.word_drawn P s given
-
   -- ---- lists
-
-  comma_drawn : (m : ℕ) → terminal (s m) ≡ t.Comma → Drawn P comma
-  comma_drawn m c = (drawn.sign_drawn P s given m t.Comma c refl (λ e. cc), tt)
 
   -- sizes, each in its brackets
   abbrev Sized : List ExprTree → Type 0
@@ -90,7 +79,7 @@ module _ (P : Spelled → Type 0) (place : ℕ → Span) (s : Text) (given : (x 
     level h a i j (g.binary {h = k} {a = b} {l = l} {r = r} {i = i2} {m = m} {j = j2} x op y is) =
         form is (w.binary_pieces _ _ l r) (both P (expr_pieces l) _ (level (suc k) l i2 m x) (drawn.binary_drawn P s given k m op, level k r (suc m) j2 y))
     level h a i j (g.instance {h = k} {a = b} {l = l} {ty = ty} {i = i2} {m = m} {j = j2} x rel of d is) =
-        form is (w.instance_of_pieces _ l ty) (both P (expr_pieces l) _ (level (suc k) l i2 m x) (key_drawn m t.InstanceOf of refl (λ e. cc), drawn.type_drawn P s given place ty (suc m) j2 d))
+        form is (w.instance_of_pieces _ l ty) (both P (expr_pieces l) _ (level (suc k) l i2 m x) (drawn.keyword_drawn P s given m t.InstanceOf of refl (λ e. cc), drawn.type_drawn P s given place ty (suc m) j2 d))
 
     pub unary : (a : ExprTree) (i j : ℕ) → Unary place s a i j → D a
     unary a i j (g.minus {a = b} {x = x} {i = i2} {j = j2} o d is) = form is (w.unary_pieces _ unaries.Minus x) (drawn.sign_drawn P s given i2 t.Minus o refl (λ e. cc), unary x (suc i2) j2 d)
@@ -117,38 +106,38 @@ module _ (P : Spelled → Type 0) (place : ℕ → Span) (s : Text) (given : (x 
 
     selected : (a : ExprTree) (i j : ℕ) → Selected place s a i j → D a
     selected a i j (g.primary d) = primary a i j d
-    selected a i j (g.field {a = b} {x = x} {i = i2} {m = m} {j = j2} d o n is end) = form is (w.field_pieces _ x _) (both P (expr_pieces x) _ (selected x i2 m d) (dot_drawn m o, (word_of (suc m) n, tt)))
+    selected a i j (g.field {a = b} {x = x} {i = i2} {m = m} {j = j2} d o n is end) = form is (w.field_pieces _ x _) (both P (expr_pieces x) _ (selected x i2 m d) (dot_drawn m o, (drawn.word_drawn P s given (suc m) n, tt)))
     selected a i j (g.method_call {a = b} {x = x} {args = xs} {i = i2} {m = m} {n = n} {j = j2} d o v left ds right is end) =
-        form is (w.method_call_pieces _ x _ xs) (both P (expr_pieces x) _ (selected x i2 m d) (dot_drawn m o, (word_of (suc m) v, arguments_drawn xs (suc (suc m)) n left (args xs _ n ds) right)))
+        form is (w.method_call_pieces _ x _ xs) (both P (expr_pieces x) _ (selected x i2 m d) (dot_drawn m o, (drawn.word_drawn P s given (suc m) v, arguments_drawn xs (suc (suc m)) n left (args xs _ n ds) right)))
     selected a i j (g.index {a = b} {x = x} {y = y} {i = i2} {m = m} {n = n} {j = j2} d other left dy right is end) =
         form is (w.index_pieces _ x y) (both P (expr_pieces x) (in_brackets (expr_pieces y)) (selected x i2 m d) (in_brackets_drawn (expr_pieces y) m n left (expression y (suc m) n dy) right))
 
     primary : (a : ExprTree) (i j : ℕ) → Primary place s a i j → D a
     primary a i j (g.literal {a = b} {i = i2} {j = j2} l is end) = form is (w.literal_pieces _ _ _) (drawn.literal_drawn P s given i2 l, tt)
-    primary a i j (g.this {a = b} {i = i2} {j = j2} k is end) = form is (w.this_pieces _) (key_drawn i2 t.This k refl (λ e. cc), tt)
+    primary a i j (g.this {a = b} {i = i2} {j = j2} k is end) = form is (w.this_pieces _) (drawn.keyword_drawn P s given i2 t.This k refl (λ e. cc), tt)
     primary a i j (g.paren {a = b} {x = x} {i = i2} {m = m} {j = j2} left d right is end) = form is (w.paren_pieces _ x) (in_parens_drawn (expr_pieces x) i2 m left (expression x (suc i2) m d) right)
-    primary a i j (g.name {a = b} {i = i2} {j = j2} v is end) = form is (w.name_pieces _ _) (word_of i2 v, tt)
-    primary a i j (g.call {a = b} {args = xs} {i = i2} {m = m} {j = j2} v left ds right is end) = form is (w.call_pieces _ _ xs) (word_of i2 v, arguments_drawn xs (suc i2) m left (args xs _ m ds) right)
-    primary a i j (g.super_field {a = b} {i = i2} {j = j2} k o v is end) = form is (w.super_field_pieces _ _) (key_drawn i2 t.Super k refl (λ e. cc), (dot_drawn (suc i2) o, (word_of (suc (suc i2)) v, tt)))
+    primary a i j (g.name {a = b} {i = i2} {j = j2} v is end) = form is (w.name_pieces _ _) (drawn.word_drawn P s given i2 v, tt)
+    primary a i j (g.call {a = b} {args = xs} {i = i2} {m = m} {j = j2} v left ds right is end) = form is (w.call_pieces _ _ xs) (drawn.word_drawn P s given i2 v, arguments_drawn xs (suc i2) m left (args xs _ m ds) right)
+    primary a i j (g.super_field {a = b} {i = i2} {j = j2} k o v is end) = form is (w.super_field_pieces _ _) (drawn.keyword_drawn P s given i2 t.Super k refl (λ e. cc), (dot_drawn (suc i2) o, (drawn.word_drawn P s given (suc (suc i2)) v, tt)))
     primary a i j (g.super_call {a = b} {args = xs} {i = i2} {m = m} {j = j2} k o v left ds right is end) =
-        form is (w.super_call_pieces _ _ xs) (key_drawn i2 t.Super k refl (λ e. cc), (dot_drawn (suc i2) o, (word_of (suc (suc i2)) v, arguments_drawn xs (suc (suc (suc i2))) m left (args xs _ m ds) right)))
+        form is (w.super_call_pieces _ _ xs) (drawn.keyword_drawn P s given i2 t.Super k refl (λ e. cc), (dot_drawn (suc i2) o, (drawn.word_drawn P s given (suc (suc i2)) v, arguments_drawn xs (suc (suc (suc i2))) m left (args xs _ m ds) right)))
     primary a i j (g.create {a = b} {args = xs} {i = i2} {m = m} {j = j2} k v left ds right is end) =
-        form is (w.new_pieces _ _ xs) (key_drawn i2 t.New k refl (λ e. cc), (word_of (suc i2) v, arguments_drawn xs (suc (suc i2)) m left (args xs _ m ds) right))
+        form is (w.new_pieces _ _ xs) (drawn.keyword_drawn P s given i2 t.New k refl (λ e. cc), (drawn.word_drawn P s given (suc i2) v, arguments_drawn xs (suc (suc i2)) m left (args xs _ m ds) right))
     primary a i j (g.new_array {a = b} {sizes = xs} {n = n} {i = i2} {m = m} {j = j2} k v ds d is) =
         form is (w.new_array_pieces _ _ xs n) (
-          key_drawn i2 t.New k refl (λ e. cc),
+          drawn.keyword_drawn P s given i2 t.New k refl (λ e. cc),
           both P (_ ∷ []) (each_behind [] (map in_brackets (map expr_pieces xs)) ++ pairs n) (drawn.type_word_drawn P s given (suc i2) v) (both P (each_behind [] (map in_brackets (map expr_pieces xs))) (pairs n) (sizes_drawn xs (sizes xs _ m ds)) (drawn.pairs_drawn P s given n m j2 d n (le_refl n))),
         )
     primary a i j (g.new_values {a = b} {values = xs} {n = n} {i = i2} {m = m} {j = j2} k v d ds is) =
         form is (w.new_values_pieces _ _ xs) (
-          key_drawn i2 t.New k refl (λ e. cc),
+          drawn.keyword_drawn P s given i2 t.New k refl (λ e. cc),
           both P (type_pieces (type_tree (place (suc i2)) (s (suc i2)) n)) (in_braces (with_commas (map expr_pieces xs))) (both P (_ ∷ []) (pairs n) (drawn.type_word_drawn P s given (suc i2) v) (drawn.pairs_drawn P s given n (suc (suc i2)) m d n (le_refl n))) (values xs m j2 ds),
         )
 
     sizes : (a : List ExprTree) (i j : ℕ) → Sizes place s a i j → Sized a
-    sizes a i j (g.size {a = b} {x = x} {i = i2} {m = m} {j = j2} left d right is end) = subst Sized (sym is) (in_brackets_drawn (expr_pieces x) i2 m left (expression x (suc i2) m d) right, tt)
-    sizes a i j (g.next_size {a = b} {b = c} {x = x} {i = i2} {m = m} {n = n} {j = j2} ds left d right is end) =
-        subst Sized (sym is) (drawn_end P (λ y. in_brackets (expr_pieces y)) c x (sizes c i2 m ds) (in_brackets_drawn (expr_pieces x) m n left (expression x (suc m) n d) right))
+    sizes a i j (g.size {x = x} {i = i2} {m = m} {j = j2} left d right is end) = all_one P (λ y. in_brackets (expr_pieces y)) a x is (in_brackets_drawn (expr_pieces x) i2 m left (expression x (suc i2) m d) right)
+    sizes a i j (g.next_size {b = c} {x = x} {i = i2} {m = m} {n = n} {j = j2} ds left d right is end) =
+        all_next P (λ y. in_brackets (expr_pieces y)) a c x is (sizes c i2 m ds) (in_brackets_drawn (expr_pieces x) m n left (expression x (suc m) n d) right)
 
     values : (a : List ExprTree) (i j : ℕ) → Values place s a i j → Drawn P (in_braces (with_commas (map expr_pieces a)))
     values a i j (g.no_values {a = b} {i = i2} {j = j2} left right is end) = subst (λ (xs : List ExprTree). Drawn P (in_braces (with_commas (map expr_pieces xs)))) (sym is) (in_braces_drawn [] i2 (suc i2) left tt right)
@@ -158,7 +147,7 @@ module _ (P : Spelled → Type 0) (place : ℕ → Span) (s : Text) (given : (x 
 
     initializers : (a : List ExprTree) (i j : ℕ) → Initializers place s a i j → Ds a
     initializers a i j (g.first {a = b} {x = x} {i = i2} {j = j2} d is) = rows_one P expr_pieces comma a x is (initializer x i2 j2 d)
-    initializers a i j (g.next {a = b} {b = c} {x = x} {i = i2} {m = m} {j = j2} ds k d is) = rows_next P expr_pieces comma a c x is (comma_drawn m k) (initializers c i2 m ds) (initializer x (suc m) j2 d)
+    initializers a i j (g.next {a = b} {b = c} {x = x} {i = i2} {m = m} {j = j2} ds k d is) = rows_next P expr_pieces comma a c x is (drawn.comma_drawn P s given m k) (initializers c i2 m ds) (initializer x (suc m) j2 d)
 
     pub initializer : (a : ExprTree) (i j : ℕ) → Initializer place s a i j → D a
     initializer a i j (g.expression d) = expression a i j d
@@ -170,4 +159,4 @@ module _ (P : Spelled → Type 0) (place : ℕ → Span) (s : Text) (given : (x 
 
     exprs : (a : List ExprTree) (i j : ℕ) → Exprs place s a i j → Ds a
     exprs a i j (g.one {a = b} {x = x} {i = i2} {j = j2} d is) = rows_one P expr_pieces comma a x is (expression x i2 j2 d)
-    exprs a i j (g.comma {a = b} {b = c} {x = x} {i = i2} {m = m} {j = j2} ds k d is) = rows_next P expr_pieces comma a c x is (comma_drawn m k) (exprs c i2 m ds) (expression x (suc m) j2 d)
+    exprs a i j (g.comma {a = b} {b = c} {x = x} {i = i2} {m = m} {j = j2} ds k d is) = rows_next P expr_pieces comma a c x is (drawn.comma_drawn P s given m k) (exprs c i2 m ds) (expression x (suc m) j2 d)

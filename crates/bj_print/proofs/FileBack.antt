@@ -2,7 +2,6 @@
 use Rattle.std.proofs.Common.{◌≡◌, ℕ, suc, List, [], ◌∷◌, ◌++◌, map, append_assoc, Option, None, refl, sym, ap, ◌∙◌, subst}
 use Rattle.std.specs.Prelude.{codes, option_map}
 use Rattle.bj_core.specs.declared.types.Span.{Span}
-use Rattle.bj_lex.specs.declared.token.TokenKind.TheVariants as kinds
 use Rattle.bj_lex.specs.Grammar.{Spelled}
 use Rattle.bj_tree.specs.declared.types.NamedPlace.{NamedPlace}
 use Rattle.bj_tree.specs.declared.class.Modifier.{Modifier}
@@ -20,7 +19,7 @@ use Rattle.bj_class.specs.Grammar.{Head, File, class_tree}
 use Rattle.bj_writer.specs.Pieces.{tokens_of}
 use Rattle.bj_print.specs.Classes.{annotation_pieces, modifier_pieces, class_word, super_word, maybe_super, maybe_names, imports_pieces, member_pieces, class_pieces}
 use Rattle.bj_print.specs.Same.{nowhere, unplaced_name, unplaced_modifier, unplaced_annotation, unplaced_import, unplaced_member, SameClass}
-use Rattle.bj_print.proofs.Holds.{Back, Prints, terminal_is, tokens_append}
+use Rattle.bj_print.proofs.Holds.{Back, Prints, tokens_append}
 use Rattle.bj_print.proofs.ExprLaws.{ExprLaws}
 use Rattle.bj_print.proofs.StmtLaws.{StmtLaws}
 use Rattle.bj_print.proofs.ExprTokens.{worded, keyed, signed}
@@ -61,8 +60,8 @@ module _ (place : ℕ → Span) (s : Text) (other : ℕ → Span) (t : Text) whe
       (reads_then (super_again other t d3) (reads_then (maybe_names_again place s other t (codes "implements") refl d4) (reads_last (signed (codes "{")))))))))
       (λ k j h. let word = h.second.middle in let key = h.second.second in let behind = key.rest.rest in let names = behind.second in record {
         tree = head_of (other k) h.first.tree h.second.first.tree forms.Class (named (other (suc word)) (t (suc word))) behind.first.tree names.first.tree;
-        stands = g.class_head h.first.stands h.second.first.stands (terminal_is (t word) kinds.Keyword (codes "class") key.token) (terminal_is (t (suc word)) kinds.Word (s (suc n)).text key.rest.token)
-            behind.first.stands names.first.stands (terminal_is (t names.middle) kinds.Sign (codes "{") names.second.token) refl names.second.rest;
+        stands = g.class_head h.first.stands h.second.first.stands key.is key.rest.is
+            behind.first.stands names.first.stands names.second.is refl names.second.rest;
         same = same_head h.first.same h.second.first.same (same_name_text (place (suc n)) (other (suc word)) (s (suc n)) (t (suc word)) key.rest.token) behind.first.same names.first.same;
       }))
   head_again (g.interface_head {n = n} d1 d2 o o2 d3 o3 is at) = subst FoundHead (sym is) (reads_as
@@ -70,8 +69,8 @@ module _ (place : ℕ → Span) (s : Text) (other : ℕ → Span) (t : Text) whe
       (reads_then (maybe_names_again place s other t (codes "extends") refl d3) (reads_last (signed (codes "{"))))))))
       (λ k j h. let word = h.second.middle in let key = h.second.second in let names = key.rest.rest in record {
         tree = head_of (other k) h.first.tree h.second.first.tree forms.Interface (named (other (suc word)) (t (suc word))) None names.first.tree;
-        stands = g.interface_head h.first.stands h.second.first.stands (terminal_is (t word) kinds.Keyword (codes "interface") key.token) (terminal_is (t (suc word)) kinds.Word (s (suc n)).text key.rest.token)
-            names.first.stands (terminal_is (t names.middle) kinds.Sign (codes "{") names.second.token) refl names.second.rest;
+        stands = g.interface_head h.first.stands h.second.first.stands key.is key.rest.is
+            names.first.stands names.second.is refl names.second.rest;
         same = same_head h.first.same h.second.first.same (same_name_text (place (suc n)) (other (suc word)) (s (suc n)) (t (suc word)) key.rest.token) refl names.first.same;
       }))
 
@@ -95,7 +94,7 @@ module _ (place : ℕ → Span) (s : Text) (other : ℕ → Span) (t : Text) (ex
       (reads_then (imports_again place s other t d1) (reads_then (head_again place s other t d2) (reads_then (members_again place s other t exprs stmts d3) (reads_last (signed (codes "}"))))))
       (λ k j h. let members = h.second.second in record {
         tree = class_tree file h.first.tree h.second.first.tree members.first.tree (other members.middle);
-        stands = g.in_file h.first.stands h.second.first.stands members.first.stands (terminal_is (t members.middle) kinds.Sign (codes "}") members.second.token) refl members.second.rest;
+        stands = g.in_file h.first.stands h.second.first.stands members.first.stands members.second.is refl members.second.rest;
         same = same_file file is h.first.tree head h.second.first.tree ms members.first.tree (place o) (other members.middle) h.first.same h.second.first.same members.first.same;
       })))
 

@@ -28,6 +28,8 @@ use Rattle.bj_rules.specs.Starts.{expr_start, stmt_start}
 use Rattle.bj_rules.specs.Words.{is_one_of}
 use Rattle.bj_rules.specs.declared.place.Place.TheVariants as places
 use Rattle.std.specs.Str.{bytes_eq}
+use Rattle.bj_print.proofs.Invariants.{unplaced_nodes}
+use Rattle.bj_print.proofs.NodesSteady.{nodes_steady}
 use Rattle.bj_print.specs.Same.{nowhere, unplaced_name, unplaced_expr, unplaced_stmt, unplaced_variable, unplaced_modifier, unplaced_annotation, unplaced_import, unplaced_member}
 
 -- whether there is no misfit
@@ -140,48 +142,47 @@ has_body_steady : (b : Bool) (body : Option StmtTree) → has_its_body b (option
 has_body_steady b None = refl
 has_body_steady b (Some x) = refl
 
-module _ (expr_nodes : (x : ExprTree) → nodes_of_expr (unplaced_expr x) ≡ nodes_of_expr x) (stmt_nodes : (x : StmtTree) → nodes_of (unplaced_stmt x) ≡ nodes_of x) where
-  size_steady : (n k : ℕ) (at at2 : Span) → n ≡ k → is_none (size_misfit n at) ≡ is_none (size_misfit k at2)
-  size_steady n k at at2 e = unless_none (not (nat_lt most_nodes n)) at codes.Large ∙ ap (λ (x : ℕ). not (nat_lt most_nodes x)) e ∙ sym (unless_none (not (nat_lt most_nodes k)) at2 codes.Large)
+size_steady : (n k : ℕ) (at at2 : Span) → n ≡ k → is_none (size_misfit n at) ≡ is_none (size_misfit k at2)
+size_steady n k at at2 e = unless_none (not (nat_lt most_nodes n)) at codes.Large ∙ ap (λ (x : ℕ). not (nat_lt most_nodes x)) e ∙ sym (unless_none (not (nat_lt most_nodes k)) at2 codes.Large)
 
-  block_steady : (x : StmtTree) → is_none (block_misfit (unplaced_stmt x)) ≡ is_none (block_misfit x)
-  block_steady x = size_steady (nodes_of (unplaced_stmt x)) (nodes_of x) (stmt_start (out-StmtTree (unplaced_stmt x))) (stmt_start (out-StmtTree x)) (stmt_nodes x)
+block_steady : (x : StmtTree) → is_none (block_misfit (unplaced_stmt x)) ≡ is_none (block_misfit x)
+block_steady x = size_steady (nodes_of (unplaced_stmt x)) (nodes_of x) (stmt_start (out-StmtTree (unplaced_stmt x))) (stmt_start (out-StmtTree x)) (nodes_steady x)
 
-  body_steady : (x : Option StmtTree) → is_none (body_misfit (option_map unplaced_stmt x)) ≡ is_none (body_misfit x)
-  body_steady None = refl
-  body_steady (Some x) = block_steady x
+body_steady : (x : Option StmtTree) → is_none (body_misfit (option_map unplaced_stmt x)) ≡ is_none (body_misfit x)
+body_steady None = refl
+body_steady (Some x) = block_steady x
 
-  value_steady : (x : Option ExprTree) → is_none (value_misfit (option_map unplaced_expr x)) ≡ is_none (value_misfit x)
-  value_steady None = refl
-  value_steady (Some x) = size_steady (nodes_of_expr (unplaced_expr x)) (nodes_of_expr x) (expr_start (out-ExprTree (unplaced_expr x))) (expr_start (out-ExprTree x)) (expr_nodes x)
+value_steady : (x : Option ExprTree) → is_none (value_misfit (option_map unplaced_expr x)) ≡ is_none (value_misfit x)
+value_steady None = refl
+value_steady (Some x) = size_steady (nodes_of_expr (unplaced_expr x)) (nodes_of_expr x) (expr_start (out-ExprTree (unplaced_expr x))) (expr_start (out-ExprTree x)) (unplaced_nodes x)
 
-  values_steady : (vs : List VariableTree) → is_none (values_misfit (map unplaced_variable vs)) ≡ is_none (values_misfit vs)
-  values_steady [] = refl
-  values_steady (x ∷ xs) =
-      first_same (value_misfit (option_map unplaced_expr x.init)) (value_misfit x.init) (values_misfit (map unplaced_variable xs) ∷ []) (values_misfit xs ∷ []) (value_steady x.init)
-      (two_same (values_misfit (map unplaced_variable xs)) (values_misfit xs) (values_steady xs))
+values_steady : (vs : List VariableTree) → is_none (values_misfit (map unplaced_variable vs)) ≡ is_none (values_misfit vs)
+values_steady [] = refl
+values_steady (x ∷ xs) =
+    first_same (value_misfit (option_map unplaced_expr x.init)) (value_misfit x.init) (values_misfit (map unplaced_variable xs) ∷ []) (values_misfit xs ∷ []) (value_steady x.init)
+    (two_same (values_misfit (map unplaced_variable xs)) (values_misfit xs) (values_steady xs))
 
-  pub member_steady : (kind : ClassKind) (class : List ℕ) (a : MemberTree) → is_none (member_misfit kind class (unplaced_member a)) ≡ is_none (member_misfit kind class a)
-  unfolding member_misfit
-  member_steady kind class (m.Field f) =
-      first_same (mark_misfit (map unplaced_annotation f.annotations) (field_place kind) (map unplaced_modifier f.modifiers)) (mark_misfit f.annotations (field_place kind) f.modifiers)
-      (values_misfit (map unplaced_variable f.variables) ∷ []) (values_misfit f.variables ∷ []) (mark_steady f.annotations (field_place kind) f.modifiers)
-      (two_same (values_misfit (map unplaced_variable f.variables)) (values_misfit f.variables) (values_steady f.variables))
-  member_steady kind class (m.Method f) =
-      let old = has_its_body (is_bodiless kind f.modifiers) f.body in
-      let new = has_its_body (is_bodiless kind (map unplaced_modifier f.modifiers)) (option_map unplaced_stmt f.body) in
-      let same : new ≡ old = has_body_steady (is_bodiless kind (map unplaced_modifier f.modifiers)) f.body ∙ ap (λ (b : Bool). has_its_body b f.body) (bodiless_steady kind f.modifiers) in
-      first_same (mark_misfit (map unplaced_annotation f.annotations) (method_place kind) (map unplaced_modifier f.modifiers)) (mark_misfit f.annotations (method_place kind) f.modifiers)
-      (body_misfit (option_map unplaced_stmt f.body) ∷ unless new nowhere codes.Syntax ∷ []) (body_misfit f.body ∷ unless old f.name.at codes.Syntax ∷ []) (mark_steady f.annotations (method_place kind) f.modifiers)
-      (first_same (body_misfit (option_map unplaced_stmt f.body)) (body_misfit f.body) (unless new nowhere codes.Syntax ∷ []) (unless old f.name.at codes.Syntax ∷ []) (body_steady f.body)
-      (two_same (unless new nowhere codes.Syntax) (unless old f.name.at codes.Syntax) (unless_same new old nowhere f.name.at codes.Syntax same)))
-  member_steady kind class (m.Constructor f) =
-      let named = not (is_interface kind) && bytes_eq f.name.name class in
-      first_same (mark_misfit (map unplaced_annotation f.annotations) places.Constructor (map unplaced_modifier f.modifiers)) (mark_misfit f.annotations places.Constructor f.modifiers)
-      (block_misfit (unplaced_stmt f.body) ∷ unless named nowhere codes.Syntax ∷ []) (block_misfit f.body ∷ unless named f.at codes.Syntax ∷ []) (mark_steady f.annotations places.Constructor f.modifiers)
-      (first_same (block_misfit (unplaced_stmt f.body)) (block_misfit f.body) (unless named nowhere codes.Syntax ∷ []) (unless named f.at codes.Syntax ∷ []) (block_steady f.body)
-      (two_same (unless named nowhere codes.Syntax) (unless named f.at codes.Syntax) (unless_same named named nowhere f.at codes.Syntax refl)))
-  member_steady kind class (m.Initializer f) =
-      first_same (block_misfit (unplaced_stmt f.body)) (block_misfit f.body) (unless (not (is_interface kind)) nowhere codes.Syntax ∷ []) (unless (not (is_interface kind)) f.at codes.Syntax ∷ []) (block_steady f.body)
-      (two_same (unless (not (is_interface kind)) nowhere codes.Syntax) (unless (not (is_interface kind)) f.at codes.Syntax) (unless_same (not (is_interface kind)) (not (is_interface kind)) nowhere f.at codes.Syntax refl))
-  member_steady kind class (m.Empty at) = refl
+pub member_steady : (kind : ClassKind) (class : List ℕ) (a : MemberTree) → is_none (member_misfit kind class (unplaced_member a)) ≡ is_none (member_misfit kind class a)
+unfolding member_misfit
+member_steady kind class (m.Field f) =
+    first_same (mark_misfit (map unplaced_annotation f.annotations) (field_place kind) (map unplaced_modifier f.modifiers)) (mark_misfit f.annotations (field_place kind) f.modifiers)
+    (values_misfit (map unplaced_variable f.variables) ∷ []) (values_misfit f.variables ∷ []) (mark_steady f.annotations (field_place kind) f.modifiers)
+    (two_same (values_misfit (map unplaced_variable f.variables)) (values_misfit f.variables) (values_steady f.variables))
+member_steady kind class (m.Method f) =
+    let old = has_its_body (is_bodiless kind f.modifiers) f.body in
+    let new = has_its_body (is_bodiless kind (map unplaced_modifier f.modifiers)) (option_map unplaced_stmt f.body) in
+    let same : new ≡ old = has_body_steady (is_bodiless kind (map unplaced_modifier f.modifiers)) f.body ∙ ap (λ (b : Bool). has_its_body b f.body) (bodiless_steady kind f.modifiers) in
+    first_same (mark_misfit (map unplaced_annotation f.annotations) (method_place kind) (map unplaced_modifier f.modifiers)) (mark_misfit f.annotations (method_place kind) f.modifiers)
+    (body_misfit (option_map unplaced_stmt f.body) ∷ unless new nowhere codes.Syntax ∷ []) (body_misfit f.body ∷ unless old f.name.at codes.Syntax ∷ []) (mark_steady f.annotations (method_place kind) f.modifiers)
+    (first_same (body_misfit (option_map unplaced_stmt f.body)) (body_misfit f.body) (unless new nowhere codes.Syntax ∷ []) (unless old f.name.at codes.Syntax ∷ []) (body_steady f.body)
+    (two_same (unless new nowhere codes.Syntax) (unless old f.name.at codes.Syntax) (unless_same new old nowhere f.name.at codes.Syntax same)))
+member_steady kind class (m.Constructor f) =
+    let named = not (is_interface kind) && bytes_eq f.name.name class in
+    first_same (mark_misfit (map unplaced_annotation f.annotations) places.Constructor (map unplaced_modifier f.modifiers)) (mark_misfit f.annotations places.Constructor f.modifiers)
+    (block_misfit (unplaced_stmt f.body) ∷ unless named nowhere codes.Syntax ∷ []) (block_misfit f.body ∷ unless named f.at codes.Syntax ∷ []) (mark_steady f.annotations places.Constructor f.modifiers)
+    (first_same (block_misfit (unplaced_stmt f.body)) (block_misfit f.body) (unless named nowhere codes.Syntax ∷ []) (unless named f.at codes.Syntax ∷ []) (block_steady f.body)
+    (two_same (unless named nowhere codes.Syntax) (unless named f.at codes.Syntax) (unless_same named named nowhere f.at codes.Syntax refl)))
+member_steady kind class (m.Initializer f) =
+    first_same (block_misfit (unplaced_stmt f.body)) (block_misfit f.body) (unless (not (is_interface kind)) nowhere codes.Syntax ∷ []) (unless (not (is_interface kind)) f.at codes.Syntax ∷ []) (block_steady f.body)
+    (two_same (unless (not (is_interface kind)) nowhere codes.Syntax) (unless (not (is_interface kind)) f.at codes.Syntax) (unless_same (not (is_interface kind)) (not (is_interface kind)) nowhere f.at codes.Syntax refl))
+member_steady kind class (m.Empty at) = refl

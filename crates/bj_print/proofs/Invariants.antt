@@ -7,7 +7,6 @@ use Rattle.bj_tree.specs.Count.{total, nodes_of_expr}
 use Rattle.bj_tree.proofs.Heights.{literal_height, this_height, paren_height, name_height, field_height, superfield_height, call_height, methodcall_height, supercall_height, index_height, new_height, newarray_height, newvalues_height, braces_height, postfix_height, prefix_height, unary_height, cast_height, binary_height, instanceof_height, conditional_height, assign_height}
 use Rattle.bj_tree.proofs.ExprNodes.{literal_nodes, this_nodes, paren_nodes, name_nodes, field_nodes, superfield_nodes, call_nodes, methodcall_nodes, supercall_nodes, index_nodes, new_nodes, newarray_nodes, newvalues_nodes, braces_nodes, postfix_nodes, prefix_nodes, unary_nodes, cast_nodes, binary_nodes, instanceof_nodes, conditional_nodes, assign_nodes}
 use Rattle.bj_print.specs.Same.{nowhere, unplaced_type, unplaced_expr, SameExpr}
-use Rattle.bj_print.proofs.ExprLaws.{SameExprs}
 use Rattle.bj_print.proofs.ExprForms.{Every, by_forms}
 use Rattle.bj_print.proofs.ExprSame.{unplaced_literal, unplaced_this, unplaced_paren, unplaced_name, unplaced_field, unplaced_super_field, unplaced_call, unplaced_method_call, unplaced_super_call, unplaced_index, unplaced_new, unplaced_new_array, unplaced_new_values, unplaced_braces, unplaced_postfix, unplaced_prefix, unplaced_unary, unplaced_cast, unplaced_binary, unplaced_instance_of, unplaced_conditional, unplaced_assign}
 
@@ -95,26 +94,5 @@ unplaced_nodes = by_forms (Stays nodes_of_expr) (record {
       ∙ (ap (λ (z : ℕ). suc (z + nodes_of_expr (unplaced_expr value))) h0 ∙ (ap (λ (z : ℕ). suc (nodes_of_expr target + z)) h1 ∙ sym (assign_nodes at op target value))));
 })
 
--- trees that are the same but for places have as much of it
-same_number : (f : ExprTree → ℕ) → ((a : ExprTree) → Stays f a) → (a b : ExprTree) → SameExpr a b → f a ≡ f b
-same_number f stay a b e = sym (stay a) ∙ (ap f e ∙ stay b)
-
 pub same_height : (a b : ExprTree) → SameExpr a b → height_of a ≡ height_of b
-same_height = same_number height_of unplaced_height
-
-pub same_nodes : (a b : ExprTree) → SameExpr a b → nodes_of_expr a ≡ nodes_of_expr b
-same_nodes = same_number nodes_of_expr unplaced_nodes
-
-each_stays : (f : ExprTree → ℕ) → ((a : ExprTree) → Stays f a) → (xs : List ExprTree) → Every (Stays f) xs
-each_stays f stay [] = tt
-each_stays f stay (x ∷ xs) = (stay x, each_stays f stay xs)
-
--- and so have lists of them
-same_numbers : (f : ExprTree → ℕ) → ((a : ExprTree) → Stays f a) → (a b : List ExprTree) → SameExprs a b → map f a ≡ map f b
-same_numbers f stay a b e = sym (all_stay f a (each_stays f stay a)) ∙ (ap (map f) e ∙ all_stay f b (each_stays f stay b))
-
-pub same_heights : (a b : List ExprTree) → SameExprs a b → map height_of a ≡ map height_of b
-same_heights = same_numbers height_of unplaced_height
-
-pub same_nodes_each : (a b : List ExprTree) → SameExprs a b → map nodes_of_expr a ≡ map nodes_of_expr b
-same_nodes_each = same_numbers nodes_of_expr unplaced_nodes
+same_height a b e = sym (unplaced_height a) ∙ ap height_of e ∙ unplaced_height b

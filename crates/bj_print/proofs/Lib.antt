@@ -25,10 +25,9 @@ pub mod StmtLaws
 pub mod StmtPieces
 pub mod StmtUnplaced
 pub mod StmtSame
+pub mod StmtSteady
 pub mod StmtDangles
 pub mod StmtFacts
-pub mod StmtTokens
-pub mod PartByPart
 pub mod SmallBack
 pub mod StmtBack
 pub mod NestedBack
@@ -41,7 +40,6 @@ pub mod Drawn
 pub mod DrawnTokens
 pub mod ExprDrawn
 pub mod StmtDrawn
-pub mod Bodies
 pub mod ClassDrawn
 pub mod FileDrawn
 pub mod FitsSteady

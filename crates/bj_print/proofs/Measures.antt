@@ -10,8 +10,8 @@ maybe_steady f u h None = refl
 maybe_steady f u h (Some x) = ap (λ (n : ℕ). Some n) (h x)
 
 -- trees with the fact of each beside it
-pub each_known : {A : Type 0} (f : A → ℕ) (u : A → A) (xs : List ((x : A) × (f (u x) ≡ f x)))
+pub each_known : {A B : Type 0} (f : A → B) (u : A → A) (xs : List ((x : A) × (f (u x) ≡ f x)))
     → map f (map u (map (λ (k : (x : A) × (f (u x) ≡ f x)). k.0) xs)) ≡ map f (map (λ (k : (x : A) × (f (u x) ≡ f x)). k.0) xs)
 each_known f u [] = refl
-each_known {A} f u (x ∷ xs) =
-    ap (λ (n : ℕ). n ∷ map f (map u (map (λ (k : (x : A) × (f (u x) ≡ f x)). k.0) xs))) x.1 ∙ ap (λ (w : List ℕ). f x.0 ∷ w) (each_known f u xs)
+each_known {A} {B} f u (x ∷ xs) =
+    ap (λ (n : B). n ∷ map f (map u (map (λ (k : (x : A) × (f (u x) ≡ f x)). k.0) xs))) x.1 ∙ ap (λ (w : List B). f x.0 ∷ w) (each_known f u xs)

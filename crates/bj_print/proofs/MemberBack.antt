@@ -1,8 +1,7 @@
 -- Printed members are read again [JLS 8.1.6, 9.1.4].
-use Rattle.std.proofs.Common.{◌≡◌, ℕ, Bool, true, false, if◌then◌else◌, List, [], ◌∷◌, ◌++◌, map, append_assoc, Option, None, refl, sym, ap, ◌∙◌, subst}
+use Rattle.std.proofs.Common.{◌≡◌, ℕ, Bool, true, false, if◌then◌else◌, List, [], ◌∷◌, ◌++◌, map, Option, None, refl, sym, ap, ◌∙◌, subst}
 use Rattle.std.specs.Prelude.{codes}
 use Rattle.bj_core.specs.declared.types.Span.{Span}
-use Rattle.bj_lex.specs.declared.token.TokenKind.TheVariants as kinds
 use Rattle.bj_lex.specs.Grammar.{Spelled}
 use Rattle.bj_tree.specs.declared.types.NamedPlace.{NamedPlace}
 use Rattle.bj_tree.specs.declared.types.TypeTree.{TypeTree}
@@ -18,19 +17,20 @@ use Rattle.bj_stmt.specs.Grammar.{named, Variables}
 use Rattle.bj_class.specs.Grammar as g
 use Rattle.bj_class.specs.Grammar.{Member, Members}
 use Rattle.bj_writer.specs.Pieces.{Piece, Line, tokens_of}
-use Rattle.bj_print.specs.Exprs.{comma, keyword}
+use Rattle.bj_print.specs.Exprs.{comma, keyword, with_commas, type_pieces}
 use Rattle.bj_print.specs.Stmts.{variable_pieces}
-use Rattle.bj_print.specs.Classes.{each, annotation_pieces, modifier_pieces, result_pieces, formals, maybe_names, maybe_body, body_pieces, is_field, member_pieces, members_behind, members_pieces}
+use Rattle.bj_print.specs.Classes.{prefix_pieces, each, result_pieces, formals, maybe_names, is_field, member_pieces, members_behind, members_pieces}
 use Rattle.bj_print.specs.Same.{nowhere, unplaced_member}
-use Rattle.bj_print.proofs.Holds.{Back, terminal_is, tokens_append}
+use Rattle.bj_print.proofs.Holds.{Back, tokens_append}
 use Rattle.bj_print.proofs.ExprLaws.{ExprLaws}
 use Rattle.bj_print.proofs.StmtLaws.{StmtLaws, SameVariables}
-use Rattle.bj_print.proofs.ExprTokens.{worded, signed, type_tokens}
-use Rattle.bj_print.proofs.Again.{Reads, reads_mark, reads_last, reads_then, reads_as, respelled}
+use Rattle.bj_print.proofs.ExprTokens.{signed}
+use Rattle.bj_print.proofs.Again.{Reads, reads_mark, reads_last, reads_as, reads_parts}
 use Rattle.bj_print.proofs.RowBack.{row_tokens, parted_tokens, FoundOne, FoundRow, empty_row, longer_row}
 use Rattle.bj_print.proofs.NamesBack.{same_name_text, maybe_names_again, static_again}
-use Rattle.bj_print.proofs.PrefixBack.{annotations_again, modifiers_again}
-use Rattle.bj_print.proofs.ParameterBack.{type_found, formals_again, result_again}
+use Rattle.bj_print.proofs.PrefixBack.{prefix_again}
+use Rattle.bj_print.proofs.SmallBack.{type_found}
+use Rattle.bj_print.proofs.ParameterBack.{formals_again, result_again}
 use Rattle.bj_print.proofs.BodyBack.{block_again, constructor_again, maybe_body_again}
 
 -- ---- members by their parts
@@ -48,33 +48,8 @@ constructor_of at notes ms name ps ts b = trees.Constructor (record { at = at; a
 abbrev initializer_of : Span → Bool → StmtTree → MemberTree
 initializer_of at f b = trees.Initializer (record { at = at; is_static = f; body = b })
 
--- ---- and their tokens
-
-abbrev note_tokens : List AnnotationTree → List Spelled
-note_tokens notes = row_tokens (annotation_pieces 4) notes
-
-abbrev modifier_tokens : List Modifier → List Spelled
-modifier_tokens ms = row_tokens modifier_pieces ms
-
-field_tokens : (at : Span) (notes : List AnnotationTree) (ms : List Modifier) (ty : TypeTree) (vs : List VariableTree) → tokens_of (member_pieces (field_of at notes ms ty vs))
-    ≡ note_tokens notes ++ (modifier_tokens ms ++ (type_tokens ty ++ (parted_tokens comma variable_pieces vs ++ signed (codes ";") ∷ [])))
-field_tokens at notes ms ty vs = simp (tokens_append, append_assoc)
-
-method_tokens : (at : Span) (notes : List AnnotationTree) (ms : List Modifier) (r : Option TypeTree) (name : NamedPlace) (ps : List ParameterTree) (ts : List NamedPlace) (b : Option StmtTree)
-    → tokens_of (member_pieces (method_of at notes ms r name ps ts b)) ≡ note_tokens notes ++ (modifier_tokens ms
-    ++ (tokens_of (result_pieces r) ++ (worded name.name ∷ (tokens_of (formals ps) ++ (tokens_of (maybe_names (codes "throws") ts) ++ tokens_of (maybe_body b))))))
-method_tokens at notes ms r name ps ts b = simp (tokens_append, append_assoc)
-
-constructor_tokens : (at : Span) (notes : List AnnotationTree) (ms : List Modifier) (name : NamedPlace) (ps : List ParameterTree) (ts : List NamedPlace) (b : StmtTree)
-    → tokens_of (member_pieces (constructor_of at notes ms name ps ts b)) ≡ note_tokens notes ++ (modifier_tokens ms
-    ++ (worded name.name ∷ (tokens_of (formals ps) ++ (tokens_of (maybe_names (codes "throws") ts) ++ tokens_of (body_pieces b)))))
-constructor_tokens at notes ms name ps ts b = simp (tokens_append, append_assoc)
-
 abbrev static_line : List Piece
 static_line = keyword (codes "static") ∷ Line 4 ∷ []
-
-initializer_tokens : (at : Span) (f : Bool) (b : StmtTree) → tokens_of (member_pieces (initializer_of at f b)) ≡ tokens_of (if f then static_line else []) ++ tokens_of (body_pieces b)
-initializer_tokens at f b = simp tokens_append
 
 -- ---- members with the same parts
 
@@ -108,44 +83,44 @@ module _ (place : ℕ → Span) (s : Text) (other : ℕ → Span) (t : Text) (ex
   variables_found {a} {i} {j} d = record { read = stmts.variables a i j d }
 
   member_again : {a : MemberTree} {i j : ℕ} → Member place s a i j → FoundMember a
-  member_again {i = i} (g.fields {notes = notes} {ms = ms} {ty = ty} {vs = vs} d1 d2 d3 d4 o is at) = subst FoundMember (sym is) (respelled (field_tokens (place i) notes ms ty vs) (reads_as
-      (reads_then (annotations_again 4 place s other t d1) (reads_then (modifiers_again place s other t d2) (reads_then (type_found place s other t exprs d3) (reads_then (variables_found d4) (reads_last (signed (codes ";")))))))
-      (λ k j h. let of = h.second.second in let vars = of.second in record {
-        tree = field_of (other k) h.first.tree h.second.first.tree of.first.tree vars.first.tree;
-        stands = g.fields h.first.stands h.second.first.stands of.first.stands vars.first.stands (terminal_is (t vars.middle) kinds.Sign (codes ";") vars.second.token) refl vars.second.rest;
-        same = same_field h.first.same h.second.first.same of.first.same vars.first.same;
-      })))
+  member_again {i = i} (g.fields {notes = notes} {ms = ms} {ty = ty} {vs = vs} d1 d2 d3 d4 o is at) = subst FoundMember (sym is) (reads_as
+      (reads_parts (prefix_pieces 4 notes ms) _ (prefix_again 4 place s other t d1 d2) (reads_parts (type_pieces ty) _ (type_found place s other t exprs d3) (reads_parts (with_commas (map variable_pieces vs)) _ (variables_found d4) (reads_last _))))
+      (λ k j h. let of = h.second in let vars = of.second in record {
+        tree = field_of (other k) h.first.first.tree h.first.second.tree of.first.tree vars.first.tree;
+        stands = g.fields h.first.first.stands h.first.second.stands of.first.stands vars.first.stands vars.second.is refl vars.second.rest;
+        same = same_field h.first.first.same h.first.second.same of.first.same vars.first.same;
+      }))
   member_again {i = i} (g.method {notes = notes} {ms = ms} {r = r} {ps = ps} {ts = ts} {b = b} {o = o} d1 d2 d3 w d4 d5 d6 is) = subst FoundMember (sym is)
-      (respelled (method_tokens (place i) notes ms r (named (place o) (s o)) ps ts b) (reads_as
-      (reads_then (annotations_again 4 place s other t d1) (reads_then (modifiers_again place s other t d2) (reads_then (result_again place s other t exprs d3) (reads_mark (worded (s o).text)
-      (reads_then (formals_again place s other t exprs d4) (reads_then (maybe_names_again place s other t (codes "throws") refl d5) (maybe_body_again place s other t stmts d6)))))))
-      (λ k j h. let result = h.second.second in let name = result.middle in let behind = result.second.rest in record {
-        tree = method_of (other k) h.first.tree h.second.first.tree result.first.tree (named (other name) (t name)) behind.first.tree behind.second.first.tree behind.second.second.tree;
-        stands = g.method h.first.stands h.second.first.stands result.first.stands (terminal_is (t name) kinds.Word (s o).text result.second.token)
+      (reads_as
+      (reads_parts (prefix_pieces 4 notes ms) _ (prefix_again 4 place s other t d1 d2) (reads_parts (result_pieces r) _ (result_again place s other t exprs d3) (reads_mark _
+      (reads_parts (formals ps) _ (formals_again place s other t exprs d4) (reads_parts (maybe_names (codes "throws") ts) _ (maybe_names_again place s other t (codes "throws") refl d5) (maybe_body_again place s other t stmts d6))))))
+      (λ k j h. let result = h.second in let name = result.middle in let behind = result.second.rest in record {
+        tree = method_of (other k) h.first.first.tree h.first.second.tree result.first.tree (named (other name) (t name)) behind.first.tree behind.second.first.tree behind.second.second.tree;
+        stands = g.method h.first.first.stands h.first.second.stands result.first.stands result.second.is
             behind.first.stands behind.second.first.stands behind.second.second.stands refl;
-        same = same_method h.first.same h.second.first.same result.first.same (same_name_text (place o) (other name) (s o) (t name) result.second.token)
+        same = same_method h.first.first.same h.first.second.same result.first.same (same_name_text (place o) (other name) (s o) (t name) result.second.token)
             behind.first.same behind.second.first.same behind.second.second.same;
-      })))
+      }))
   member_again {i = i} (g.constructor {notes = notes} {ms = ms} {ps = ps} {ts = ts} {b = b} {n = n} d1 d2 w d3 d4 d5 is) = subst FoundMember (sym is)
-      (respelled (constructor_tokens (place i) notes ms (named (place n) (s n)) ps ts b) (reads_as
-      (reads_then (annotations_again 4 place s other t d1) (reads_then (modifiers_again place s other t d2) (reads_mark (worded (s n).text)
-      (reads_then (formals_again place s other t exprs d3) (reads_then (maybe_names_again place s other t (codes "throws") refl d4) (constructor_again place s other t stmts d5))))))
-      (λ k j h. let name = h.second.middle in let behind = h.second.second.rest in record {
-        tree = constructor_of (other k) h.first.tree h.second.first.tree (named (other name) (t name)) behind.first.tree behind.second.first.tree behind.second.second.tree;
-        stands = g.constructor h.first.stands h.second.first.stands (terminal_is (t name) kinds.Word (s n).text h.second.second.token)
+      (reads_as
+      (reads_parts (prefix_pieces 4 notes ms) _ (prefix_again 4 place s other t d1 d2) (reads_mark _
+      (reads_parts (formals ps) _ (formals_again place s other t exprs d3) (reads_parts (maybe_names (codes "throws") ts) _ (maybe_names_again place s other t (codes "throws") refl d4) (constructor_again place s other t stmts d5)))))
+      (λ k j h. let name = h.middle in let behind = h.second.rest in record {
+        tree = constructor_of (other k) h.first.first.tree h.first.second.tree (named (other name) (t name)) behind.first.tree behind.second.first.tree behind.second.second.tree;
+        stands = g.constructor h.first.first.stands h.first.second.stands h.second.is
             behind.first.stands behind.second.first.stands behind.second.second.stands refl;
-        same = same_constructor h.first.same h.second.first.same (same_name_text (place n) (other name) (s n) (t name) h.second.second.token)
+        same = same_constructor h.first.first.same h.first.second.same (same_name_text (place n) (other name) (s n) (t name) h.second.token)
             behind.first.same behind.second.first.same behind.second.second.same;
-      })))
-  member_again {i = i} (g.initializer {f = f} {b = b} d1 d2 is) = subst FoundMember (sym is) (respelled (initializer_tokens (place i) f b) (reads_as
-      (reads_then (static_again t static_line refl d1) (block_again place s other t stmts d2)) (λ k j h. record {
+      }))
+  member_again {i = i} (g.initializer {f = f} {b = b} d1 d2 is) = subst FoundMember (sym is) (reads_as
+      (reads_parts (if f then static_line else []) _ (static_again t static_line refl d1) (block_again place s other t stmts d2)) (λ k j h. record {
         tree = initializer_of (other k) f h.second.tree;
         stands = g.initializer h.first h.second.stands refl;
         same = ap (initializer_of nowhere f) h.second.same;
-      })))
+      }))
   member_again {i = i} (g.empty o is at) = subst FoundMember (sym is) (reads_as (reads_last (signed (codes ";"))) (λ k j h. record {
     tree = trees.Empty (other k);
-    stands = g.empty (terminal_is (t k) kinds.Sign (codes ";") h.token) refl h.rest;
+    stands = g.empty h.is refl h.rest;
     same = refl;
   }))
 
@@ -153,7 +128,7 @@ module _ (place : ℕ → Span) (s : Text) (other : ℕ → Span) (t : Text) (ex
 
   pub members_again : {a : List MemberTree} {i j : ℕ} → Members place s a i j → FoundRow t unplaced_member member_pieces (Members other t) a
   members_again (g.no_members is at) = empty_row t unplaced_member member_pieces (Member other t) (Members other t) (λ k j f. g.no_members refl f) is
-  members_again (g.next_member d e is) = longer_row t unplaced_member member_pieces (Member other t) (Members other t) (λ xs y k m j l d. g.next_member l d refl) (members_again d) (member_again e) is
+  members_again (g.next_member d e is) = longer_row t unplaced_member member_pieces (Member other t) (Members other t) (λ xs y k m j same l d. g.next_member l d refl) (members_again d) (member_again e) is
 
 -- ---- the lines between them are no tokens
 

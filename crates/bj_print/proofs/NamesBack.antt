@@ -16,7 +16,7 @@ use Rattle.bj_writer.specs.Pieces.{Piece, tokens_of}
 use Rattle.bj_print.specs.Exprs.{comma, sign}
 use Rattle.bj_print.specs.Classes.{name_piece, name_list, maybe_names, maybe_super}
 use Rattle.bj_print.specs.Same.{nowhere, unplaced_name}
-use Rattle.bj_print.proofs.Holds.{Back, spelling_of, terminal_is, text_is}
+use Rattle.bj_print.proofs.Holds.{Back, spelling_of, text_is}
 use Rattle.bj_print.proofs.ExprTokens.{worded, keyed, signed}
 use Rattle.bj_print.proofs.Again.{Reads, reads_end, reads_mark, reads_last, reads_as, respelled}
 use Rattle.bj_print.proofs.RowBack.{SameBy, SameAll, HasOne, has_only, has_more, FoundOne, FoundParted, one_part, more_parts}
@@ -35,7 +35,7 @@ module _ (other : ℕ → Span) (t : Text) where
   name_found : (at : Span) (x : Token) → FoundOne t unplaced_name name_piece (NameAt other t) (named at x)
   name_found at x = reads_as (reads_last (worded x.text)) (λ k j f. record {
     tree = named (other k) (t k);
-    stands = record { word = terminal_is (t k) kinds.Word x.text f.token; is = refl; end = f.rest };
+    stands = record { word = f.is; is = refl; end = f.rest };
     same = same_name_text at (other k) x (t k) f.token;
   })
 
@@ -74,7 +74,7 @@ module _ (place : ℕ → Span) (s : Text) (other : ℕ → Span) (t : Text) whe
   maybe_names_again {which} units means (g.no_names is at) = subst (FoundNames t units (MaybeNames which other t)) (sym is) (reads_as reads_end (λ k j f. record { tree = []; stands = g.no_names refl f; same = refl }))
   maybe_names_again {which} {a} units means (g.names o d) = respelled (some_names_tokens units a (names_some d)) (reads_as (reads_mark (keyed units) (names_again place s other t d)) (λ k j f. record {
     tree = f.rest.tree;
-    stands = g.names (terminal_is (t k) kinds.Keyword units f.token ∙ means) f.rest.stands;
+    stands = g.names (f.is ∙ means) f.rest.stands;
     same = f.rest.same;
   }))
 
@@ -87,7 +87,7 @@ pub super_again : {place : ℕ → Span} {s : Text} (other : ℕ → Span) (t : 
 super_again other t (g.no_super is at) = subst (FoundSuper t other) (sym is) (reads_as reads_end (λ k j f. record { tree = None; stands = g.no_super refl f; same = refl }))
 super_again {place} {s} other t {i = i} (g.super o o2 is at) = subst (FoundSuper t other) (sym is) (reads_as (reads_mark (keyed (codes "extends")) (reads_last (worded (s (suc i)).text))) (λ k j f. record {
   tree = Some (named (other (suc k)) (t (suc k)));
-  stands = g.super (terminal_is (t k) kinds.Keyword (codes "extends") f.token) (terminal_is (t (suc k)) kinds.Word (s (suc i)).text f.rest.token) refl f.rest.rest;
+  stands = g.super f.is f.rest.is refl f.rest.rest;
   same = ap (λ (z : NamedPlace). Some z) (same_name_text (place (suc i)) (other (suc k)) (s (suc i)) (t (suc k)) f.rest.token);
 }))
 
@@ -99,9 +99,9 @@ FoundWord t p D b = Reads t (tokens_of (if b then p else [])) (D b)
 pub static_again : {s : Text} {b : Bool} {i j : ℕ} (t : Text) (p : List Piece) → tokens_of p ≡ keyed (codes "static") ∷ [] → MaybeStatic s b i j → Reads t (tokens_of (if b then p else [])) (MaybeStatic t b)
 static_again t p spelt (g.not_static is at) = subst (FoundWord t p (MaybeStatic t)) (sym is) (reads_as reads_end (λ k j f. g.not_static refl f))
 static_again t p spelt (g.static o is at) = subst (FoundWord t p (MaybeStatic t)) (sym is)
-    (respelled spelt (reads_as (reads_last (keyed (codes "static"))) (λ k j f. g.static (terminal_is (t k) kinds.Keyword (codes "static") f.token) refl f.rest)))
+    (respelled spelt (reads_as (reads_last (keyed (codes "static"))) (λ k j f. g.static f.is refl f.rest)))
 
 pub all_again : {s : Text} {b : Bool} {i j : ℕ} (t : Text) → MaybeAll s b i j → Reads t (tokens_of (if b then sign (codes ".") ∷ sign (codes "*") ∷ [] else [])) (MaybeAll t b)
 all_again t (g.not_all is at) = subst (FoundWord t (sign (codes ".") ∷ sign (codes "*") ∷ []) (MaybeAll t)) (sym is) (reads_as reads_end (λ k j f. g.not_all refl f))
 all_again t (g.all o o2 is at) = subst (FoundWord t (sign (codes ".") ∷ sign (codes "*") ∷ []) (MaybeAll t)) (sym is)
-    (reads_as (reads_mark (signed (codes ".")) (reads_last (signed (codes "*")))) (λ k j f. g.all (terminal_is (t k) kinds.Sign (codes ".") f.token) (terminal_is (t (suc k)) kinds.Sign (codes "*") f.rest.token) refl f.rest.rest))
+    (reads_as (reads_mark (signed (codes ".")) (reads_last (signed (codes "*")))) (λ k j f. g.all f.is f.rest.is refl f.rest.rest))

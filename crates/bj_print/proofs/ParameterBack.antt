@@ -1,44 +1,31 @@
 -- Printed parameters and results are read again [JLS 8.4.1, 8.4.5].
-use Rattle.std.proofs.Common.{◌≡◌, ℕ, suc, Bool, List, [], ◌∷◌, ◌++◌, Option, Some, None, refl, sym, ap, ◌∙◌, subst}
+use Rattle.std.proofs.Common.{map, ◌≡◌, ℕ, Bool, List, [], Option, Some, None, refl, sym, ap, ◌∙◌, subst}
 use Rattle.std.specs.Prelude.{codes, option_map}
 use Rattle.bj_core.specs.declared.types.Span.{Span}
-use Rattle.bj_lex.specs.declared.token.TokenKind.TheVariants as kinds
 use Rattle.bj_tree.specs.declared.types.NamedPlace.{NamedPlace}
 use Rattle.bj_tree.specs.declared.types.TypeTree.{TypeTree}
 use Rattle.bj_tree.specs.declared.member.ParameterTree.{ParameterTree}
 use Rattle.bj_grammar.specs.Reader.{Text}
-use Rattle.bj_expr.specs.Grammar.{TypeAt, Dims}
-use Rattle.bj_stmt.specs.Grammar as stmts
-use Rattle.bj_stmt.specs.Grammar.{named, MaybeFinal}
+use Rattle.bj_stmt.specs.Grammar.{named}
 use Rattle.bj_class.specs.Grammar as g
 use Rattle.bj_class.specs.Grammar.{Parameter, Parameters, Formals, ResultAt}
 use Rattle.bj_writer.specs.Pieces.{tokens_of}
-use Rattle.bj_print.specs.Exprs.{comma}
+use Rattle.bj_print.specs.Exprs.{comma, with_commas, type_pieces}
 use Rattle.bj_print.specs.Stmts.{maybe_final}
 use Rattle.bj_print.specs.Classes.{parameter_pieces, formals, result_pieces}
 use Rattle.bj_print.specs.Same.{nowhere, unplaced_name, unplaced_type, unplaced_parameter}
-use Rattle.bj_print.proofs.Holds.{Back, terminal_is, tokens_append}
+use Rattle.bj_print.proofs.Holds.{Back}
 use Rattle.bj_print.proofs.ExprLaws.{ExprLaws, SameType}
-use Rattle.bj_print.proofs.ExprTokens.{worded, keyed, signed, type_tokens, pair_tokens}
-use Rattle.bj_print.proofs.Again.{Reads, reads_end, reads_mark, reads_last, reads_then, reads_as, respelled}
-use Rattle.bj_print.proofs.RowBack.{SameBy, SameAll, parted_tokens, HasOne, has_only, has_more, FoundOne, FoundParted, one_part, more_parts}
+use Rattle.bj_print.proofs.ExprTokens.{keyed, signed}
+use Rattle.bj_print.proofs.Again.{Reads, reads_mark, reads_last, reads_as, reads_parts}
+use Rattle.bj_print.proofs.RowBack.{SameBy, SameAll, HasOne, has_only, has_more, FoundOne, FoundParted, one_part, more_parts}
 use Rattle.bj_print.proofs.NamesBack.{same_name_text}
-
-abbrev FoundFinal : Text → Bool → Type 0
-FoundFinal t b = Reads t (tokens_of (maybe_final b)) (MaybeFinal t b)
-
-final_again : {s : Text} {b : Bool} {i j : ℕ} (t : Text) → MaybeFinal s b i j → FoundFinal t b
-final_again t (stmts.not_final is at) = subst (FoundFinal t) (sym is) (reads_as reads_end (λ k j f. stmts.not_final refl f))
-final_again t (stmts.final o is at) = subst (FoundFinal t) (sym is) (reads_as (reads_last (keyed (codes "final"))) (λ k j f. stmts.final (terminal_is (t k) kinds.Keyword (codes "final") f.token) refl f.rest))
+use Rattle.bj_print.proofs.SmallBack.{final_found, type_found, dims_found}
 
 -- ---- one parameter
 
 abbrev parameter_of : Span → Bool → TypeTree → NamedPlace → ℕ → ParameterTree
 parameter_of at f ty name d = record { at = at; is_final = f; of = ty; name = name; dims = d }
-
-parameter_tokens : (at : Span) (f : Bool) (ty : TypeTree) (name : NamedPlace) (d : ℕ)
-    → tokens_of (parameter_pieces (parameter_of at f ty name d)) ≡ tokens_of (maybe_final f) ++ (type_tokens ty ++ (worded name.name ∷ pair_tokens d))
-parameter_tokens at f ty name d = simp tokens_append
 
 same_parameter : (at at2 : Span) (f : Bool) (ty ty2 : TypeTree) (name name2 : NamedPlace) (d : ℕ) → SameType ty2 ty → SameBy unplaced_name name2 name
     → SameBy unplaced_parameter (parameter_of at2 f ty2 name2 d) (parameter_of at f ty name d)
@@ -55,26 +42,17 @@ FoundResult other t a = Reads t (tokens_of (result_pieces a)) (Back (ResultAt ot
 abbrev pub FoundFormals : (ℕ → Span) → Text → List ParameterTree → Type 0
 FoundFormals other t a = Reads t (tokens_of (formals a)) (Back (Formals other t) (SameAll unplaced_parameter) a)
 
-formals_tokens : (ps : List ParameterTree) → tokens_of (formals ps) ≡ signed (codes "(") ∷ (parted_tokens comma parameter_pieces ps ++ signed (codes ")") ∷ [])
-formals_tokens ps = simp tokens_append
-
 module _ (place : ℕ → Span) (s : Text) (other : ℕ → Span) (t : Text) (exprs : ExprLaws place s other t) where
-  pub type_found : {a : TypeTree} {i j : ℕ} → TypeAt place s a i j → Reads t (type_tokens a) (Back (TypeAt other t) SameType a)
-  type_found {a} {i} {j} d = record { read = exprs.type_at a i j d }
-
-  dims_found : {n i j : ℕ} → Dims s n i j → Reads t (pair_tokens n) (Dims t n)
-  dims_found {n} {i} {j} d = record { read = exprs.dims n i j d }
-
   parameter_again : {a : ParameterTree} {i j : ℕ} → Parameter place s a i j → FoundOne t unplaced_parameter parameter_pieces (Parameter other t) a
   parameter_again {i = i} (g.parameter {f = f} {ty = ty} {d = d} {n = n} d1 d2 o d3 is) = subst (FoundOne t unplaced_parameter parameter_pieces (Parameter other t)) (sym is)
-      (respelled (parameter_tokens (place i) f ty (named (place n) (s n)) d) (reads_as
-      (reads_then (final_again t d1) (reads_then (type_found d2) (reads_mark (worded (s n).text) (dims_found d3))))
+      (reads_as
+      (reads_parts (maybe_final f) _ (final_found t f) (reads_parts (type_pieces ty) _ (type_found place s other t exprs d2) (reads_mark _ (dims_found place s other t exprs d3))))
       (λ k j h. let name = h.second.middle in record {
         tree = parameter_of (other k) f h.second.first.tree (named (other name) (t name)) d;
-        stands = g.parameter h.first h.second.first.stands (terminal_is (t name) kinds.Word (s n).text h.second.second.token) h.second.second.rest refl;
+        stands = g.parameter h.first h.second.first.stands h.second.second.is h.second.second.rest refl;
         same = same_parameter (place i) (other k) f ty h.second.first.tree (named (place n) (s n)) (named (other name) (t name)) d h.second.first.same
             (same_name_text (place n) (other name) (s n) (t name) h.second.second.token);
-      })))
+      }))
 
   -- ---- parameters in parentheses
 
@@ -91,24 +69,24 @@ module _ (place : ℕ → Span) (s : Text) (other : ℕ → Span) (t : Text) (ex
   pub formals_again : {a : List ParameterTree} {i j : ℕ} → Formals place s a i j → FoundFormals other t a
   formals_again (g.no_formals o o2 is at) = subst (FoundFormals other t) (sym is) (reads_as (reads_mark (signed (codes "(")) (reads_last (signed (codes ")")))) (λ k j f. record {
     tree = [];
-    stands = g.no_formals (terminal_is (t k) kinds.Sign (codes "(") f.token) (terminal_is (t (suc k)) kinds.Sign (codes ")") f.rest.token) refl f.rest.rest;
+    stands = g.no_formals f.is f.rest.is refl f.rest.rest;
     same = refl;
   }))
-  formals_again {a} (g.formals o d o2 at) = respelled (formals_tokens a) (reads_as (reads_mark (signed (codes "(")) (reads_then (parameters_again d) (reads_last (signed (codes ")"))))) (λ k j f. record {
+  formals_again {a} (g.formals o d o2 at) = reads_as (reads_mark _ (reads_parts (with_commas (map parameter_pieces a)) _ (parameters_again d) (reads_last _))) (λ k j f. record {
     tree = f.rest.first.tree;
-    stands = g.formals (terminal_is (t k) kinds.Sign (codes "(") f.token) f.rest.first.stands (terminal_is (t f.rest.middle) kinds.Sign (codes ")") f.rest.second.token) f.rest.second.rest;
+    stands = g.formals f.is f.rest.first.stands f.rest.second.is f.rest.second.rest;
     same = f.rest.first.same;
-  }))
+  })
 
   -- ---- results
 
   pub result_again : {a : Option TypeTree} {i j : ℕ} → ResultAt place s a i j → FoundResult other t a
   result_again (g.void o is at) = subst (FoundResult other t) (sym is) (reads_as (reads_last (keyed (codes "void"))) (λ k j f. record {
     tree = None;
-    stands = g.void (terminal_is (t k) kinds.Keyword (codes "void") f.token) refl f.rest;
+    stands = g.void f.is refl f.rest;
     same = refl;
   }))
-  result_again (g.gives d is) = subst (FoundResult other t) (sym is) (reads_as (type_found d) (λ k j f. record {
+  result_again (g.gives d is) = subst (FoundResult other t) (sym is) (reads_as (type_found place s other t exprs d) (λ k j f. record {
     tree = Some f.tree;
     stands = g.gives f.stands refl;
     same = ap (λ (z : TypeTree). Some z) f.same;

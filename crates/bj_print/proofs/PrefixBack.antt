@@ -1,5 +1,5 @@
 -- Printed annotations and modifiers are read again [JLS 9.7, 8.1.1].
-use Rattle.std.proofs.Common.{◌≡◌, ℕ, suc, true, List, [], ◌∷◌, ◌++◌, Some, None, refl, sym, ap, ◌∙◌, subst}
+use Rattle.std.proofs.Common.{◌≡◌, ℕ, suc, true, List, [], ◌∷◌, ◌++◌, map, Some, None, refl, sym, ap, ◌∙◌, subst}
 use Rattle.std.specs.Prelude.{codes}
 use Rattle.bj_core.specs.declared.types.Span.{Span}
 use Rattle.bj_lex.specs.declared.token.TokenKind.TheVariants as kinds
@@ -13,14 +13,16 @@ use Rattle.bj_grammar.specs.Reader.{Text}
 use Rattle.bj_stmt.specs.Grammar.{named}
 use Rattle.bj_class.specs.Grammar as g
 use Rattle.bj_class.specs.Grammar.{Annotation, Annotations, modifier_words, modifier_kind, modifier, ModifierList}
-use Rattle.bj_print.specs.Classes.{annotation_pieces, modifier_word, modifier_pieces}
+use Rattle.bj_writer.specs.Pieces.{tokens_of}
+use Rattle.bj_print.specs.Exprs.{each_behind}
+use Rattle.bj_print.specs.Classes.{annotation_pieces, modifier_word, modifier_pieces, prefix_pieces}
 use Rattle.bj_print.specs.Same.{nowhere, unplaced_name, unplaced_annotation, unplaced_modifier}
-use Rattle.bj_print.proofs.Holds.{terminal_is, text_is}
+use Rattle.bj_print.proofs.Holds.{Back, text_is}
 use Rattle.bj_expr.proofs.Facts.{each}
 use Rattle.bj_print.proofs.PrintedOperators.{among_again}
 use Rattle.bj_print.proofs.ExprTokens.{worded, keyed, signed}
-use Rattle.bj_print.proofs.Again.{reads_mark, reads_last, reads_as}
-use Rattle.bj_print.proofs.RowBack.{SameBy, FoundOne, FoundRow, empty_row, longer_row}
+use Rattle.bj_print.proofs.Again.{Reads, Then, reads_mark, reads_last, reads_as, reads_parts}
+use Rattle.bj_print.proofs.RowBack.{SameBy, SameAll, FoundOne, FoundRow, empty_row, longer_row}
 use Rattle.bj_print.proofs.NamesBack.{same_name_text}
 
 -- ---- annotations
@@ -40,7 +42,7 @@ module _ (columns : ℕ) (place : ℕ → Span) (s : Text) (other : ℕ → Span
   annotation_again {i = i} (g.marker o o2 is at) = subst (FoundOne t unplaced_annotation (annotation_pieces columns) (Annotation other t)) (sym is)
       (reads_as (reads_mark (signed (codes "@")) (reads_last (worded (s (suc i)).text))) (λ k j f. record {
         tree = marker_of (other k) (named (other (suc k)) (t (suc k)));
-        stands = g.marker (terminal_is (t k) kinds.Sign (codes "@") f.token) (terminal_is (t (suc k)) kinds.Word (s (suc i)).text f.rest.token) refl f.rest.rest;
+        stands = g.marker f.is f.rest.is refl f.rest.rest;
         same = ap (marker_of nowhere) (same_name_text (place (suc i)) (other (suc k)) (s (suc i)) (t (suc k)) f.rest.token);
       }))
   annotation_again {i = i} (g.expecting {n = n} o o2 here o3 o4 o5 o6 o7 o8 o9 o10 is at) = subst (FoundOne t unplaced_annotation (annotation_pieces columns) (Annotation other t)) (sym is)
@@ -51,11 +53,11 @@ module _ (columns : ℕ) (place : ℕ → Span) (s : Text) (other : ℕ → Span
       let value = in_parens.rest.rest.rest in
       record {
         tree = expecting_of (other k) (named (other (suc k)) (t (suc k))) (named (other (suc (suc (suc m)))) (t (suc (suc (suc m)))));
-        stands = g.expecting (terminal_is (t k) kinds.Sign (codes "@") f.token) (terminal_is (t (suc k)) kinds.Word (s (suc i)).text f.rest.token) refl
-            (terminal_is (t m) kinds.Sign (codes "(") in_parens.token) (terminal_is (t (suc m)) kinds.Word (codes "expected") in_parens.rest.token) (text_is (t (suc m)) kinds.Word (codes "expected") in_parens.rest.token)
-            (terminal_is (t (suc (suc m))) kinds.Sign (codes "=") in_parens.rest.rest.token) (terminal_is (t (suc (suc (suc m)))) kinds.Word (s (suc (suc (suc n)))).text value.token)
-            (terminal_is (t (suc (suc (suc (suc m))))) kinds.Sign (codes ".") value.rest.token) (terminal_is (t (suc (suc (suc (suc (suc m)))))) kinds.Keyword (codes "class") value.rest.rest.token)
-            (terminal_is (t (suc (suc (suc (suc (suc (suc m))))))) kinds.Sign (codes ")") value.rest.rest.rest.token) refl value.rest.rest.rest.rest;
+        stands = g.expecting f.is f.rest.is refl
+            in_parens.is in_parens.rest.is (text_is (t (suc m)) kinds.Word (codes "expected") in_parens.rest.token)
+            in_parens.rest.rest.is value.is
+            value.rest.is value.rest.rest.is
+            value.rest.rest.rest.is refl value.rest.rest.rest.rest;
         same = same_expecting (place i) (other k) (named (place (suc i)) (s (suc i))) (named (other (suc k)) (t (suc k)))
             (named (place (suc (suc (suc n)))) (s (suc (suc (suc n))))) (named (other (suc (suc (suc m)))) (t (suc (suc (suc m)))))
             (same_name_text (place (suc i)) (other (suc k)) (s (suc i)) (t (suc k)) f.rest.token)
@@ -65,7 +67,7 @@ module _ (columns : ℕ) (place : ℕ → Span) (s : Text) (other : ℕ → Span
   pub annotations_again : {a : List AnnotationTree} {i j : ℕ} → Annotations place s a i j → FoundRow t unplaced_annotation (annotation_pieces columns) (Annotations other t) a
   annotations_again (g.no_annotations is at) = empty_row t unplaced_annotation (annotation_pieces columns) (Annotation other t) (Annotations other t) (λ k j f. g.no_annotations refl f) is
   annotations_again (g.next_annotation d e is) = longer_row t unplaced_annotation (annotation_pieces columns) (Annotation other t) (Annotations other t)
-      (λ xs y k m j l d. g.next_annotation l d refl) (annotations_again d) (annotation_again e) is
+      (λ xs y k m j same l d. g.next_annotation l d refl) (annotations_again d) (annotation_again e) is
 
 -- ---- modifiers
 
@@ -88,7 +90,7 @@ same_modifier at at2 x y e = ap (λ (v : Terminal). let m : Modifier = record { 
 module _ (place : ℕ → Span) (s : Text) (other : ℕ → Span) (t : Text) where
   modifier_found : (at : Span) (x : Token) → among modifier_words (terminal x) ≡ true → FoundOne t unplaced_modifier modifier_pieces (ModifierAt other t) (modifier at x)
   modifier_found at x o = reads_as (reads_last (keyed (modifier_word (modifier_kind (terminal x))))) (λ k j f.
-      let w : terminal (t k) ≡ terminal x = terminal_is (t k) kinds.Keyword (modifier_word (modifier_kind (terminal x))) f.token ∙ modifier_printed (terminal x) o in
+      let w : terminal (t k) ≡ terminal x = f.is ∙ modifier_printed (terminal x) o in
       record {
         tree = modifier (other k) (t k);
         stands = record { word = among_again modifier_words (terminal x) (terminal (t k)) w o; is = refl; end = f.rest };
@@ -98,4 +100,10 @@ module _ (place : ℕ → Span) (s : Text) (other : ℕ → Span) (t : Text) whe
   pub modifiers_again : {a : List Modifier} {i j : ℕ} → ModifierList place s a i j → FoundRow t unplaced_modifier modifier_pieces (ModifierList other t) a
   modifiers_again (g.no_modifiers is at) = empty_row t unplaced_modifier modifier_pieces (ModifierAt other t) (ModifierList other t) (λ k j f. g.no_modifiers refl f) is
   modifiers_again (g.next_modifier {n = n} d o is at) = longer_row t unplaced_modifier modifier_pieces (ModifierAt other t) (ModifierList other t)
-      (λ xs y k m j l d. g.next_modifier l d.word (ap (λ (z : Modifier). xs ++ z ∷ []) d.is) d.end) (modifiers_again d) (modifier_found (place n) (s n) o) is
+      (λ xs y k m j same l d. g.next_modifier l d.word (ap (λ (z : Modifier). xs ++ z ∷ []) d.is) d.end) (modifiers_again d) (modifier_found (place n) (s n) o) is
+
+-- ---- both, before a declaration
+
+pub prefix_again : (columns : ℕ) (place : ℕ → Span) (s : Text) (other : ℕ → Span) (t : Text) {notes : List AnnotationTree} {ms : List Modifier} {i k j : ℕ} → Annotations place s notes i k → ModifierList place s ms k j
+    → Reads t (tokens_of (prefix_pieces columns notes ms)) (Then (Back (Annotations other t) (SameAll unplaced_annotation) notes) (Back (ModifierList other t) (SameAll unplaced_modifier) ms))
+prefix_again columns place s other t {notes} d1 d2 = reads_parts (each_behind [] (map (annotation_pieces columns) notes)) _ (annotations_again columns place s other t d1) (modifiers_again place s other t d2)

@@ -10,19 +10,21 @@ use Rattle.bj_grammar.specs.Terminal.{terminal, among}
 use Rattle.bj_grammar.specs.Reader.{Text}
 use Rattle.bj_expr.specs.Grammar as g
 use Rattle.bj_expr.specs.Grammar.{literal_words, literal_kind, type_words, type_tree, Dims, Expression, Primary, Args}
-use Rattle.bj_print.specs.Exprs.{literal_token}
-use Rattle.bj_print.proofs.Holds.{terminal_is, text_is}
-use Rattle.bj_print.proofs.ExprTokens.{worded, keyed, signed, literal_tokens, this_tokens, paren_tokens, name_tokens, call_tokens, super_field_tokens, super_call_tokens, new_tokens, new_array_tokens, new_values_tokens, braces_tokens, size_tokens, pair_tokens, brace_tokens}
+use Rattle.bj_print.specs.Exprs.{literal_token, expr_pieces}
+use Rattle.bj_print.proofs.Holds.{text_is}
+use Rattle.bj_print.proofs.ExprLaws.{list_pieces}
+use Rattle.bj_print.proofs.ExprPieces as forms
+use Rattle.bj_print.proofs.ExprTokens.{worded, keyed, signed, new_array_tokens, new_values_tokens, size_tokens, pair_tokens, brace_tokens}
 use Rattle.bj_print.proofs.ExprSame.{same_literal, same_this, same_paren, same_name, same_call, same_super_field, same_super_call, same_new, same_new_array, same_new_values, same_braces}
 use Rattle.bj_print.proofs.PrintedOperators.{among_again, literal_again, word_is_literal}
 use Rattle.bj_print.proofs.TypeBack.{dims_again, reads_type_word, same_type}
-use Rattle.bj_print.proofs.Again.{reads_mark, reads_last, reads_then, reads_as, respelled}
+use Rattle.bj_print.proofs.Again.{reads_mark, reads_last, reads_then, reads_as, respelled, reprinted, reads_parts}
 use Rattle.bj_print.proofs.Found.{Found, FoundAll, of_tree}
 use Rattle.bj_print.proofs.ListBack.{FoundValues, FoundSizes}
 
 module _ (other : ℕ → Span) (t : Text) where
   pub literal_found : {a : ExprTree} {at : Span} (x : Token) → among literal_words (terminal x) ≡ true → a ≡ e.Literal at (literal_kind (terminal x)) x.text → Found t (Primary other t) a
-  literal_found {at = at} x o is = of_tree is (respelled (literal_tokens at (literal_kind (terminal x)) x.text) (reads_as (reads_last (literal_token (literal_kind (terminal x)), x.text)) (λ k j f.
+  literal_found {at = at} x o is = of_tree is (reprinted (forms.literal_pieces at (literal_kind (terminal x)) x.text) (reads_as (reads_last (literal_token (literal_kind (terminal x)), x.text)) (λ k j f.
       let w : terminal (t k) ≡ terminal x = literal_again x (t k) (word_is_literal (terminal x) o) f.token in
       record {
         tree = e.Literal (other k) (literal_kind (terminal (t k))) (t k).text;
@@ -31,57 +33,57 @@ module _ (other : ℕ → Span) (t : Text) where
       })))
 
   pub this_found : {a : ExprTree} {at : Span} → a ≡ e.This at → Found t (Primary other t) a
-  this_found {at = at} is = of_tree is (respelled (this_tokens at) (reads_as (reads_last (keyed (codes "this"))) (λ k j f.
-      record { tree = e.This (other k); stands = g.this (terminal_is (t k) kinds.Keyword (codes "this") f.token) refl f.rest; same = same_this (other k) at })))
+  this_found {at = at} is = of_tree is (reprinted (forms.this_pieces at) (reads_as (reads_last (keyed (codes "this"))) (λ k j f.
+      record { tree = e.This (other k); stands = g.this f.is refl f.rest; same = same_this (other k) at })))
 
   pub paren_found : {a x : ExprTree} {at : Span} → Found t (Expression other t) x → a ≡ e.Paren at x → Found t (Primary other t) a
-  paren_found {x = x} {at = at} d is = of_tree is (respelled (paren_tokens at x) (reads_as (reads_mark (signed (codes "(")) (reads_then d (reads_last (signed (codes ")"))))) (λ k j f. record {
+  paren_found {x = x} {at = at} d is = of_tree is (reprinted (forms.paren_pieces at x) (reads_as (reads_mark (signed (codes "(")) (reads_parts (expr_pieces x) _ d (reads_last (signed (codes ")"))))) (λ k j f. record {
     tree = e.Paren (other k) f.rest.first.tree;
-    stands = g.paren (terminal_is (t k) kinds.Sign (codes "(") f.token) f.rest.first.stands (terminal_is (t f.rest.middle) kinds.Sign (codes ")") f.rest.second.token) refl f.rest.second.rest;
+    stands = g.paren f.is f.rest.first.stands f.rest.second.is refl f.rest.second.rest;
     same = same_paren (other k) at f.rest.first.tree x f.rest.first.same;
   })))
 
   pub name_found : {a : ExprTree} {at : Span} {v : List ℕ} → a ≡ e.Name at v → Found t (Primary other t) a
-  name_found {at = at} {v = v} is = of_tree is (respelled (name_tokens at v) (reads_as (reads_last (worded v)) (λ k j f. record {
+  name_found {at = at} {v = v} is = of_tree is (reprinted (forms.name_pieces at v) (reads_as (reads_last (worded v)) (λ k j f. record {
     tree = e.Name (other k) (t k).text;
-    stands = g.name (terminal_is (t k) kinds.Word v f.token) refl f.rest;
+    stands = g.name f.is refl f.rest;
     same = same_name (other k) at (t k).text v (text_is (t k) kinds.Word v f.token);
   })))
 
   pub call_found : {a : ExprTree} {args : List ExprTree} {at : Span} {v : List ℕ} → FoundAll t (Args other t) args → a ≡ e.Call at v args → Found t (Primary other t) a
-  call_found {args = args} {at = at} {v = v} d is = of_tree is (respelled (call_tokens at v args) (reads_as (reads_mark (worded v) (reads_mark (signed (codes "(")) (reads_then d (reads_last (signed (codes ")")))))) (λ k j f. record {
+  call_found {args = args} {at = at} {v = v} d is = of_tree is (reprinted (forms.call_pieces at v args) (reads_as (reads_mark (worded v) (reads_mark (signed (codes "(")) (reads_parts (list_pieces args) _ d (reads_last (signed (codes ")")))))) (λ k j f. record {
     tree = e.Call (other k) (t k).text f.rest.rest.first.tree;
-    stands = g.call (terminal_is (t k) kinds.Word v f.token) (terminal_is (t (suc k)) kinds.Sign (codes "(") f.rest.token) f.rest.rest.first.stands
-        (terminal_is (t f.rest.rest.middle) kinds.Sign (codes ")") f.rest.rest.second.token) refl f.rest.rest.second.rest;
+    stands = g.call f.is f.rest.is f.rest.rest.first.stands
+        f.rest.rest.second.is refl f.rest.rest.second.rest;
     same = same_call (other k) at (t k).text v f.rest.rest.first.tree args (text_is (t k) kinds.Word v f.token) f.rest.rest.first.same;
   })))
 
   pub super_field_found : {a : ExprTree} {at : Span} {v : List ℕ} → a ≡ e.SuperField at v → Found t (Primary other t) a
-  super_field_found {at = at} {v = v} is = of_tree is (respelled (super_field_tokens at v) (reads_as (reads_mark (keyed (codes "super")) (reads_mark (signed (codes ".")) (reads_last (worded v)))) (λ k j f. record {
+  super_field_found {at = at} {v = v} is = of_tree is (reprinted (forms.super_field_pieces at v) (reads_as (reads_mark (keyed (codes "super")) (reads_mark (signed (codes ".")) (reads_last (worded v)))) (λ k j f. record {
     tree = e.SuperField (other k) (t (suc (suc k))).text;
-    stands = g.super_field (terminal_is (t k) kinds.Keyword (codes "super") f.token) (terminal_is (t (suc k)) kinds.Sign (codes ".") f.rest.token) (terminal_is (t (suc (suc k))) kinds.Word v f.rest.rest.token) refl f.rest.rest.rest;
+    stands = g.super_field f.is f.rest.is f.rest.rest.is refl f.rest.rest.rest;
     same = same_super_field (other k) at (t (suc (suc k))).text v (text_is (t (suc (suc k))) kinds.Word v f.rest.rest.token);
   })))
 
   pub super_call_found : {a : ExprTree} {args : List ExprTree} {at : Span} {v : List ℕ} → FoundAll t (Args other t) args → a ≡ e.SuperCall at v args → Found t (Primary other t) a
-  super_call_found {args = args} {at = at} {v = v} d is = of_tree is (respelled (super_call_tokens at v args)
-      (reads_as (reads_mark (keyed (codes "super")) (reads_mark (signed (codes ".")) (reads_mark (worded v) (reads_mark (signed (codes "(")) (reads_then d (reads_last (signed (codes ")")))))))) (λ k j f.
+  super_call_found {args = args} {at = at} {v = v} d is = of_tree is (reprinted (forms.super_call_pieces at v args)
+      (reads_as (reads_mark (keyed (codes "super")) (reads_mark (signed (codes ".")) (reads_mark (worded v) (reads_mark (signed (codes "(")) (reads_parts (list_pieces args) _ d (reads_last (signed (codes ")")))))))) (λ k j f.
       let behind = f.rest.rest.rest.rest in
       record {
         tree = e.SuperCall (other k) (t (suc (suc k))).text behind.first.tree;
-        stands = g.super_call (terminal_is (t k) kinds.Keyword (codes "super") f.token) (terminal_is (t (suc k)) kinds.Sign (codes ".") f.rest.token) (terminal_is (t (suc (suc k))) kinds.Word v f.rest.rest.token)
-            (terminal_is (t (suc (suc (suc k)))) kinds.Sign (codes "(") f.rest.rest.rest.token) behind.first.stands (terminal_is (t behind.middle) kinds.Sign (codes ")") behind.second.token) refl behind.second.rest;
+        stands = g.super_call f.is f.rest.is f.rest.rest.is
+            f.rest.rest.rest.is behind.first.stands behind.second.is refl behind.second.rest;
         same = same_super_call (other k) at (t (suc (suc k))).text v behind.first.tree args (text_is (t (suc (suc k))) kinds.Word v f.rest.rest.token) behind.first.same;
       })))
 
   pub create_found : {a : ExprTree} {args : List ExprTree} {at : Span} {v : List ℕ} → FoundAll t (Args other t) args → a ≡ e.New at v args → Found t (Primary other t) a
-  create_found {args = args} {at = at} {v = v} d is = of_tree is (respelled (new_tokens at v args)
-      (reads_as (reads_mark (keyed (codes "new")) (reads_mark (worded v) (reads_mark (signed (codes "(")) (reads_then d (reads_last (signed (codes ")"))))))) (λ k j f.
+  create_found {args = args} {at = at} {v = v} d is = of_tree is (reprinted (forms.new_pieces at v args)
+      (reads_as (reads_mark (keyed (codes "new")) (reads_mark (worded v) (reads_mark (signed (codes "(")) (reads_parts (list_pieces args) _ d (reads_last (signed (codes ")"))))))) (λ k j f.
       let behind = f.rest.rest.rest in
       record {
         tree = e.New (other k) (t (suc k)).text behind.first.tree;
-        stands = g.create (terminal_is (t k) kinds.Keyword (codes "new") f.token) (terminal_is (t (suc k)) kinds.Word v f.rest.token) (terminal_is (t (suc (suc k))) kinds.Sign (codes "(") f.rest.rest.token) behind.first.stands
-            (terminal_is (t behind.middle) kinds.Sign (codes ")") behind.second.token) refl behind.second.rest;
+        stands = g.create f.is f.rest.is f.rest.rest.is behind.first.stands
+            behind.second.is refl behind.second.rest;
         same = same_new (other k) at (t (suc k)).text v behind.first.tree args (text_is (t (suc k)) kinds.Word v f.rest.token) behind.first.same;
       })))
 
@@ -92,7 +94,7 @@ module _ (other : ℕ → Span) (t : Text) where
   new_array_found {sizes = sizes} {at = at} {at2 = at2} {n = n} x o d dims is = of_tree is (respelled (new_array_tokens at (type_tree at2 x 0) sizes n)
       (reads_as (reads_mark (keyed (codes "new")) (reads_type_word (size_tokens sizes ++ pair_tokens n) at2 x 0 o (reads_then d (dims_again dims)))) (λ k j f. record {
         tree = e.NewArray (other k) (type_tree (other (suc k)) (t (suc k)) 0) f.rest.rest.first.tree n;
-        stands = g.new_array (terminal_is (t k) kinds.Keyword (codes "new") f.token) f.rest.kind f.rest.rest.first.stands f.rest.rest.second refl;
+        stands = g.new_array f.is f.rest.kind f.rest.rest.first.stands f.rest.rest.second refl;
         same = same_new_array (other k) at (type_tree (other (suc k)) (t (suc k)) 0) (type_tree at2 x 0) f.rest.rest.first.tree sizes n n
             (same_type at2 (other (suc k)) x (t (suc k)) 0 f.rest.name) f.rest.rest.first.same refl;
       })))
@@ -102,14 +104,14 @@ module _ (other : ℕ → Span) (t : Text) where
   new_values_found {values = values} {at = at} {at2 = at2} {n = n} x o dims d is = of_tree is (respelled (new_values_tokens at (type_tree at2 x n) values)
       (reads_as (reads_mark (keyed (codes "new")) (reads_type_word (brace_tokens values) at2 x n o (reads_then (dims_again dims) d))) (λ k j f. record {
         tree = e.NewValues (other k) (type_tree (other (suc k)) (t (suc k)) n) f.rest.rest.second.tree;
-        stands = g.new_values (terminal_is (t k) kinds.Keyword (codes "new") f.token) f.rest.kind f.rest.rest.first f.rest.rest.second.stands refl;
+        stands = g.new_values f.is f.rest.kind f.rest.rest.first f.rest.rest.second.stands refl;
         same = same_new_values (other k) at (type_tree (other (suc k)) (t (suc k)) n) (type_tree at2 x n) f.rest.rest.second.tree values
             (same_type at2 (other (suc k)) x (t (suc k)) n f.rest.name) f.rest.rest.second.same;
       })))
 
   -- values in braces, where a variable is given its value [JLS 10.6]
   pub braces_found : {a : ExprTree} {all : List ExprTree} {at : Span} → FoundValues other t all → a ≡ e.Braces at all → Found t (g.Initializer other t) a
-  braces_found {all = all} {at = at} d is = of_tree is (respelled (braces_tokens at all) (reads_as d (λ k j f. record {
+  braces_found {all = all} {at = at} d is = of_tree is (reprinted (forms.braces_pieces at all) (reads_as d (λ k j f. record {
     tree = e.Braces (other k) f.tree;
     stands = g.braces f.stands refl;
     same = same_braces (other k) at f.tree all f.same;

@@ -18,7 +18,7 @@ use Rattle.bj_writer.specs.Pieces.{Piece, tokens_of}
 use Rattle.bj_print.specs.Exprs as p
 use Rattle.bj_print.specs.Exprs.{literal_token, unary_sign, step_sign, binary_sign, assign_sign}
 use Rattle.bj_print.proofs.Holds.{spelling_of, terminal_is, text_is}
-use Rattle.bj_print.proofs.ExprTokens.{worded, keyed, signed}
+use Rattle.bj_print.proofs.ExprTokens.{worded, keyed}
 use Rattle.bj_expr.proofs.Facts.{each, or_left, or_right}
 use Rattle.bj_print.proofs.Terminals.{either, passes_spelled}
 
@@ -61,10 +61,6 @@ step_printed = each (IsPrinted step_text) step_ops (refl, (refl, tt))
 
 pub negation_printed : (v : Terminal) → among negations v ≡ true → terminal_by kinds.Sign (negation_text v) ≡ v
 negation_printed = each (IsPrinted negation_text) negations (refl, (refl, tt))
-
--- a token with that spelling is one of them
-pub sign_again : (x : Token) (units : List ℕ) (v : Terminal) → terminal_by kinds.Sign units ≡ v → spelling_of x ≡ signed units → terminal x ≡ v
-sign_again x units v same e = terminal_is x kinds.Sign units e ∙ same
 
 pub among_again : (ks : List Terminal) (v w : Terminal) → w ≡ v → among ks v ≡ true → among ks w ≡ true
 among_again ks v w same e = ap (among ks) same ∙ e

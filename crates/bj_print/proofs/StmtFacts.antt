@@ -1,20 +1,14 @@
 -- Expressions that are statements, and the words and signs that a statement is told by.
-use Rattle.std.proofs.Common.{◌≡◌, ◌⊎◌, inl, inr, true, List, ◌++◌, refl, sym, ap, ◌∙◌}
-use Rattle.bj_core.specs.declared.types.Span.{Span}
-use Rattle.bj_lex.specs.declared.token.TokenKind.TheVariants as kinds
-use Rattle.bj_tree.specs.declared.expr.AssignOp.{AssignOp}
+use Rattle.std.proofs.Common.{◌≡◌, ◌⊎◌, inl, inr, true, refl, sym, ap, ◌∙◌}
 use Rattle.bj_tree.specs.declared.expr.ExprTree.{ExprTree, ExprTree-F, roll-ExprTree, ind-ExprTree}
 use Rattle.bj_tree.specs.declared.expr.ExprTree.TheVariants as e
 use Rattle.bj_tree.specs.declared.expr.ExprTree.TheFolds.{fold-roll-ExprTree}
 use Rattle.bj_grammar.specs.declared.terminal.Terminal.{Terminal}
 use Rattle.bj_grammar.specs.declared.terminal.Terminal.TheVariants as t
 use Rattle.bj_expr.proofs.Facts.{each}
-use Rattle.bj_grammar.specs.Terminal.{among, terminal_by}
-use Rattle.bj_expr.specs.Grammar.{assigns, assign_op}
+use Rattle.bj_grammar.specs.Terminal.{among}
 use Rattle.bj_stmt.specs.Grammar.{is_statement, jumps}
-use Rattle.bj_writer.specs.Pieces.{Piece}
-use Rattle.bj_print.specs.Exprs.{sign, spaced, assign_sign, expr_form, expr_pieces}
-use Rattle.bj_print.specs.Same.{nowhere, unplaced_expr_form, unplaced_expr, SameExpr}
+use Rattle.bj_print.specs.Same.{unplaced_expr_form, unplaced_expr, SameExpr}
 
 -- ---- whether an expression is a statement does not depend on places
 
@@ -54,28 +48,6 @@ statement_steady = ind-ExprTree (λ (x : ExprTree). is_statement (unplaced_expr 
 
 pub same_is_statement : (x y : ExprTree) → SameExpr x y → is_statement x ≡ is_statement y
 same_is_statement x y h = sym (statement_steady x) ∙ ap is_statement h ∙ statement_steady y
-
--- ---- an assignment
-
-pub assign_pieces : (at : Span) (op : AssignOp) (l r : ExprTree) → expr_pieces (e.Assign at op l r) ≡ expr_pieces l ++ (spaced (sign (assign_sign op)) ++ expr_pieces r)
-unfolding expr_pieces
-assign_pieces at op l r = ap expr_pieces (sym (e.rolls-Assign at op l r)) ∙ fold-roll-ExprTree (List Piece) expr_form (ExprTree-F.Assign at op l r)
-
-assign_unplaced : (at : Span) (op : AssignOp) (l r : ExprTree) → unplaced_expr (e.Assign at op l r) ≡ e.Assign nowhere op (unplaced_expr l) (unplaced_expr r)
-unfolding unplaced_expr
-assign_unplaced at op l r = ap unplaced_expr (sym (e.rolls-Assign at op l r)) ∙ fold-roll-ExprTree ExprTree unplaced_expr_form (ExprTree-F.Assign at op l r)
-
-pub same_assign : (p q : Span) (a b : AssignOp) (l m r n : ExprTree) → a ≡ b → SameExpr l m → SameExpr r n → SameExpr (e.Assign p a l r) (e.Assign q b m n)
-same_assign p q a b l m r n h0 h1 h2 = assign_unplaced p a l r ∙ ap (λ (z : AssignOp). e.Assign nowhere z (unplaced_expr l) (unplaced_expr r)) h0
-    ∙ ap (λ (z : ExprTree). e.Assign nowhere b z (unplaced_expr r)) h1 ∙ ap (λ (z : ExprTree). e.Assign nowhere b (unplaced_expr m) z) h2 ∙ sym (assign_unplaced q b m n)
-
--- ---- terminals of a list
-
-abbrev AssignsAs : Terminal → Type 0
-AssignsAs x = terminal_by kinds.Sign (assign_sign (assign_op x)) ≡ x
-
-pub assign_terminal : (x : Terminal) → among assigns x ≡ true → AssignsAs x
-assign_terminal = each AssignsAs assigns (refl, (refl, (refl, (refl, (refl, (refl, (refl, (refl, (refl, (refl, (refl, (refl, tt))))))))))))
 
 abbrev IsJump : Terminal → Type 0
 IsJump x = (x ≡ t.Break) ⊎ (x ≡ t.Continue)

@@ -118,9 +118,6 @@ pub ruleset stmt_forms = (block_parts, empty_parts, local_parts, expression_part
 pub wrote_bare : {a b : Writer} {x y : Pieces} → x ≡ y → Wrote a b y.bare → Wrote a b x.bare
 wrote_bare e h = wrote_as (ap (λ (p : Pieces). p.bare) e) h
 
-pub wrote_semicolon : {a b : Writer} {p : List Piece} {ends : Bool} → p ≡ (if ends then semicolon ∷ [] else []) → ends ≡ true → Wrote a b (semicolon ∷ []) → Wrote a b p
-wrote_semicolon e is h = wrote_as (e ∙ ap (λ (t : Bool). if t then semicolon ∷ [] else []) is) h
-
 pub wrote_no_semicolon : {a : Writer} {p : List Piece} {ends : Bool} → p ≡ (if ends then semicolon ∷ [] else []) → ends ≡ false → Wrote a a p
 wrote_no_semicolon e is = wrote_as (e ∙ ap (λ (t : Bool). if t then semicolon ∷ [] else []) is) nothing_wrote
 

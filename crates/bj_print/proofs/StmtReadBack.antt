@@ -18,7 +18,6 @@ use Rattle.bj_print.proofs.StmtDrawn as drawn
 use Rattle.bj_print.proofs.ExprBack.{expr_laws}
 use Rattle.bj_print.proofs.StmtLaws.{SameStmts}
 use Rattle.bj_print.proofs.StmtInduction.{stmt_laws}
-use Rattle.bj_print.proofs.Invariants.{unplaced_height}
 use Rattle.bj_print.proofs.HeightsSteady.{same_height}
 use Rattle.bj_print.proofs.Sources.{tokens_given, are_tokens}
 use Rattle.bj_print.proofs.ReadBack.{printed}
@@ -54,7 +53,7 @@ stmt_reads_back a bytes l =
     let one = only_one back.tree a back.same in
     let stands = subst (λ (bs : List StmtTree). SomeStatements (place_of w.read.lexemes) (text_of w.read.lexemes) bs 0 (length w.read.lexemes)) one.is
     (subst (SomeStatements (place_of w.read.lexemes) (text_of w.read.lexemes) back.tree 0) (ap (ends 0) same_tokens ∙ w.stops) back.stands) in
-    let height : stmt_height one.tree ≡ stmt_height a = same_height unplaced_height one.tree a one.same in (
+    let height : stmt_height one.tree ≡ stmt_height a = same_height one.tree a one.same in (
       one.tree,
       record {
         tokens = w.read.lexemes;

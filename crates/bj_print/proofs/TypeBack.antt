@@ -18,6 +18,7 @@ use Rattle.bj_print.proofs.Holds.{Holds, ends, Back, terminal_is}
 use Rattle.bj_print.proofs.ExprLaws.{SameType}
 use Rattle.bj_print.proofs.ExprTokens.{pair_tokens, type_tokens}
 use Rattle.bj_print.proofs.PrintedOperators.{type_mark, type_mark_first, type_printed, among_again}
+use Rattle.bj_print.proofs.Found.{FoundType}
 use Rattle.bj_print.proofs.Again.{Reads, Mark, reads_mark, reads_as, respelled}
 
 -- ---- pairs of brackets
@@ -74,7 +75,7 @@ module _ (place : ℕ → Span) (s : Text) (other : ℕ → Span) (t : Text) whe
   type_named : (at : Span) (x : Token) (n k j : ℕ) → TypeWord t (name_of x) (Dims t n) k j → Back (TypeAt other t) SameType (type_tree at x n) k j
   type_named at x n k j h = record { tree = type_tree (other k) (t k) n; stands = g.named h.kind h.rest refl; same = same_type at (other k) x (t k) n h.name }
 
-  pub type_again : {a : TypeTree} {i j : ℕ} → TypeAt place s a i j → Reads t (type_tokens a) (Back (TypeAt other t) SameType a)
+  pub type_again : {a : TypeTree} {i j : ℕ} → TypeAt place s a i j → FoundType other t a
   type_again {i = i} (g.named {n = n} o d is) =
-      subst (λ a. Reads t (type_tokens a) (Back (TypeAt other t) SameType a)) (sym is)
+      subst (FoundType other t) (sym is)
       (reads_as (reads_type_alone (place i) (s i) n o (dims_again d)) (λ k j h. type_named (place i) (s i) n k j h))

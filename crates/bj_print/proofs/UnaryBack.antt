@@ -2,7 +2,6 @@
 use Rattle.std.proofs.Common.{◌≡◌, ℕ, suc, true, false, List, ◌∷◌, refl, ap, ◌∙◌}
 use Rattle.std.specs.Prelude.{codes}
 use Rattle.bj_core.specs.declared.types.Span.{Span}
-use Rattle.bj_lex.specs.declared.token.TokenKind.TheVariants as kinds
 use Rattle.bj_lex.specs.declared.token.Token.{Token}
 use Rattle.bj_lex.specs.Grammar.{Spelled}
 use Rattle.bj_tree.specs.declared.types.TypeTree.{TypeTree}
@@ -14,28 +13,26 @@ use Rattle.bj_grammar.specs.Terminal.{terminal, among}
 use Rattle.bj_grammar.specs.Reader.{Text}
 use Rattle.bj_expr.specs.Grammar as g
 use Rattle.bj_expr.specs.Grammar.{negations, negation_op, step_ops, step_op, leasts, literal_kind, is_primitive, TypeAt, Unary, Plain}
-use Rattle.bj_print.specs.Exprs.{literal_token}
-use Rattle.bj_print.proofs.Holds.{Back, terminal_is, text_is}
+use Rattle.bj_print.specs.Exprs.{literal_token, sign}
+use Rattle.bj_print.proofs.Holds.{text_is}
 use Rattle.bj_print.proofs.ExprLaws.{SameType}
-use Rattle.bj_print.proofs.ExprTokens.{signed, type_tokens, unary_tokens, prefix_tokens, cast_tokens, literal_tokens}
+use Rattle.bj_writer.specs.Pieces.{Piece}
+use Rattle.bj_print.proofs.ExprPieces as forms
+use Rattle.bj_print.proofs.ExprTokens.{signed, cast_tokens}
 use Rattle.bj_print.proofs.ExprSame.{same_unary, same_prefix, same_cast, same_literal}
-use Rattle.bj_print.proofs.PrintedOperators.{step_text, step_printed, negation_text, negation_printed, sign_again, among_again, literal_again, least_is_literal}
-use Rattle.bj_print.proofs.Again.{Reads, reads_mark, reads_last, reads_then, reads_as, respelled}
-use Rattle.bj_print.proofs.Found.{Found, of_tree}
+use Rattle.bj_print.proofs.PrintedOperators.{step_text, step_printed, negation_text, negation_printed, among_again, literal_again, least_is_literal}
+use Rattle.bj_print.proofs.Again.{reads_mark, reads_last, reads_then, reads_as, respelled, reprinted}
+use Rattle.bj_print.proofs.Found.{Found, FoundType, of_tree}
 
 -- whether a sign may stand behind a cast does not depend on places
 same_primitive : (a b : TypeTree) → SameType a b → is_primitive a ≡ is_primitive b
 same_primitive a b e = ap is_primitive e
 
 module _ (other : ℕ → Span) (t : Text) where
-  -- what is found of a type
-  abbrev pub FoundType : TypeTree → Type 0
-  FoundType a = Reads t (type_tokens a) (Back (TypeAt other t) SameType a)
-
   pub minus_found : {a x : ExprTree} {at : Span} → Found t (Unary other t) x → a ≡ e.Unary at unaries.Minus x → Found t (Unary other t) a
-  minus_found {x = x} {at = at} d is = of_tree is (respelled (unary_tokens at unaries.Minus x) (reads_as (reads_mark (signed (codes "-")) d) (λ k j f. record {
+  minus_found {x = x} {at = at} d is = of_tree is (reprinted (forms.unary_pieces at unaries.Minus x) (reads_as (reads_mark (signed (codes "-")) d) (λ k j f. record {
     tree = e.Unary (other k) unaries.Minus f.rest.tree;
-    stands = g.minus (terminal_is (t k) kinds.Sign (codes "-") f.token) f.rest.stands refl;
+    stands = g.minus f.is f.rest.stands refl;
     same = same_unary (other k) at unaries.Minus unaries.Minus f.rest.tree x refl f.rest.same;
   })))
 
@@ -43,27 +40,27 @@ module _ (other : ℕ → Span) (t : Text) where
   least_found {at = at} at2 x o is =
       let kind = literal_kind (terminal x) in
       let shown : Spelled = (literal_token kind, x.text) in
-      of_tree is (respelled (unary_tokens at unaries.Minus (e.Literal at2 kind x.text) ∙ ap (λ (w : List Spelled). signed (codes "-") ∷ w) (literal_tokens at2 kind x.text))
+      of_tree is (reprinted (forms.unary_pieces at unaries.Minus (e.Literal at2 kind x.text) ∙ ap (λ (w : List Piece). sign (codes "-") ∷ w) (forms.literal_pieces at2 kind x.text))
       (reads_as (reads_mark (signed (codes "-")) (reads_last shown)) (λ k j f.
       let y = t (suc k) in
       let w : terminal y ≡ terminal x = literal_again x y (least_is_literal (terminal x) o) f.rest.token in
       record {
         tree = e.Unary (other k) unaries.Minus (e.Literal (other (suc k)) (literal_kind (terminal y)) y.text);
-        stands = g.least (terminal_is (t k) kinds.Sign (codes "-") f.token) (among_again leasts (terminal x) (terminal y) w o) refl f.rest.rest;
+        stands = g.least f.is (among_again leasts (terminal x) (terminal y) w o) refl f.rest.rest;
         same = same_unary (other k) at unaries.Minus unaries.Minus (e.Literal (other (suc k)) (literal_kind (terminal y)) y.text) (e.Literal at2 kind x.text) refl
             (same_literal (other (suc k)) at2 (literal_kind (terminal y)) kind y.text x.text (ap literal_kind w) (text_is y (literal_token kind) x.text f.rest.token));
       })))
 
   pub plus_found : {a x : ExprTree} {at : Span} → Found t (Unary other t) x → a ≡ e.Unary at unaries.Plus x → Found t (Unary other t) a
-  plus_found {x = x} {at = at} d is = of_tree is (respelled (unary_tokens at unaries.Plus x) (reads_as (reads_mark (signed (codes "+")) d) (λ k j f. record {
+  plus_found {x = x} {at = at} d is = of_tree is (reprinted (forms.unary_pieces at unaries.Plus x) (reads_as (reads_mark (signed (codes "+")) d) (λ k j f. record {
     tree = e.Unary (other k) unaries.Plus f.rest.tree;
-    stands = g.plus (terminal_is (t k) kinds.Sign (codes "+") f.token) f.rest.stands refl;
+    stands = g.plus f.is f.rest.stands refl;
     same = same_unary (other k) at unaries.Plus unaries.Plus f.rest.tree x refl f.rest.same;
   })))
 
   pub prefix_found : {a x : ExprTree} {at : Span} (v : Terminal) → among step_ops v ≡ true → Found t (Unary other t) x → a ≡ e.Prefix at (step_op v) x → Found t (Unary other t) a
-  prefix_found {x = x} {at = at} v o d is = of_tree is (respelled (prefix_tokens at (step_op v) x) (reads_as (reads_mark (signed (step_text v)) d) (λ k j f.
-      let w = sign_again (t k) (step_text v) v (step_printed v o) f.token in
+  prefix_found {x = x} {at = at} v o d is = of_tree is (reprinted (forms.prefix_pieces at (step_op v) x) (reads_as (reads_mark (signed (step_text v)) d) (λ k j f.
+      let w = f.is ∙ step_printed v o in
       record {
         tree = e.Prefix (other k) (step_op (terminal (t k))) f.rest.tree;
         stands = g.prefix (among_again step_ops v (terminal (t k)) w o) f.rest.stands refl;
@@ -71,32 +68,32 @@ module _ (other : ℕ → Span) (t : Text) where
       })))
 
   pub negation_found : {a x : ExprTree} {at : Span} (v : Terminal) → among negations v ≡ true → Found t (Unary other t) x → a ≡ e.Unary at (negation_op v) x → Found t (Plain other t) a
-  negation_found {x = x} {at = at} v o d is = of_tree is (respelled (unary_tokens at (negation_op v) x) (reads_as (reads_mark (signed (negation_text v)) d) (λ k j f.
-      let w = sign_again (t k) (negation_text v) v (negation_printed v o) f.token in
+  negation_found {x = x} {at = at} v o d is = of_tree is (reprinted (forms.unary_pieces at (negation_op v) x) (reads_as (reads_mark (signed (negation_text v)) d) (λ k j f.
+      let w = f.is ∙ negation_printed v o in
       record {
         tree = e.Unary (other k) (negation_op (terminal (t k))) f.rest.tree;
         stands = g.negation (among_again negations v (terminal (t k)) w o) f.rest.stands refl;
         same = same_unary (other k) at (negation_op (terminal (t k))) (negation_op v) f.rest.tree x (ap negation_op w) f.rest.same;
       })))
 
-  pub cast_primitive_found : {a x : ExprTree} {ty : TypeTree} {at : Span} → FoundType ty → is_primitive ty ≡ true → Found t (Unary other t) x → a ≡ e.Cast at ty x → Found t (Plain other t) a
+  pub cast_primitive_found : {a x : ExprTree} {ty : TypeTree} {at : Span} → FoundType other t ty → is_primitive ty ≡ true → Found t (Unary other t) x → a ≡ e.Cast at ty x → Found t (Plain other t) a
   cast_primitive_found {x = x} {ty = ty} {at = at} c o d is = of_tree is (respelled (cast_tokens at ty x) (reads_as (reads_mark (signed (codes "(")) (reads_then c (reads_mark (signed (codes ")")) d))) (λ k j f.
       let to = f.rest.first in
       let operand = f.rest.second.rest in
       record {
         tree = e.Cast (other k) to.tree operand.tree;
-        stands = g.cast_primitive (terminal_is (t k) kinds.Sign (codes "(") f.token) to.stands (terminal_is (t f.rest.middle) kinds.Sign (codes ")") f.rest.second.token)
+        stands = g.cast_primitive f.is to.stands f.rest.second.is
             (same_primitive to.tree ty to.same ∙ o) operand.stands refl;
         same = same_cast (other k) at to.tree ty operand.tree x to.same operand.same;
       })))
 
-  pub cast_reference_found : {a x : ExprTree} {ty : TypeTree} {at : Span} → FoundType ty → is_primitive ty ≡ false → Found t (Plain other t) x → a ≡ e.Cast at ty x → Found t (Plain other t) a
+  pub cast_reference_found : {a x : ExprTree} {ty : TypeTree} {at : Span} → FoundType other t ty → is_primitive ty ≡ false → Found t (Plain other t) x → a ≡ e.Cast at ty x → Found t (Plain other t) a
   cast_reference_found {x = x} {ty = ty} {at = at} c o d is = of_tree is (respelled (cast_tokens at ty x) (reads_as (reads_mark (signed (codes "(")) (reads_then c (reads_mark (signed (codes ")")) d))) (λ k j f.
       let to = f.rest.first in
       let operand = f.rest.second.rest in
       record {
         tree = e.Cast (other k) to.tree operand.tree;
-        stands = g.cast_reference (terminal_is (t k) kinds.Sign (codes "(") f.token) to.stands (terminal_is (t f.rest.middle) kinds.Sign (codes ")") f.rest.second.token)
+        stands = g.cast_reference f.is to.stands f.rest.second.is
             (same_primitive to.tree ty to.same ∙ o) operand.stands refl;
         same = same_cast (other k) at to.tree ty operand.tree x to.same operand.same;
       })))

@@ -46,7 +46,7 @@ wrote_as {a} {b} e h = subst (λ (w : List Piece). Wrote a b w) (sym e) h
 
 -- ---- lists, an item at a time
 
-behind_end : (before : List Piece) (ps : List (List Piece)) (p : List Piece) → each_behind before (ps ++ p ∷ []) ≡ each_behind before ps ++ (before ++ p)
+pub behind_end : (before : List Piece) (ps : List (List Piece)) (p : List Piece) → each_behind before (ps ++ p ∷ []) ≡ each_behind before ps ++ (before ++ p)
 behind_end before [] p = ap (λ (w : List Piece). before ++ w) (append-nil p)
 behind_end before (q ∷ ps) p =
     ap (λ (w : List Piece). before ++ (q ++ w)) (behind_end before ps p)
@@ -93,7 +93,7 @@ pub wrote_behind : {A : Type 0} (before : List Piece) (f : A → List Piece) (xs
 wrote_behind before f xs n x at h k = wrote_as (ap (each_behind before) (map_next f xs n x at) ∙ behind_end before (map f (take n xs)) (f x)) (then_wrote h k)
 
 -- two maps, one behind the other
-map_both : {A B : Type 0} (g : B → List Piece) (f : A → B) (xs : List A) → map g (map f xs) ≡ map (λ (x : A). g (f x)) xs
+pub map_both : {A B : Type 0} (g : B → List Piece) (f : A → B) (xs : List A) → map g (map f xs) ≡ map (λ (x : A). g (f x)) xs
 map_both g f [] = refl
 map_both g f (x ∷ xs) = ap (λ (ps : List (List Piece)). g (f x) ∷ ps) (map_both g f xs)
 
