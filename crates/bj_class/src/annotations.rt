@@ -47,9 +47,14 @@ fn maybe_expecting(
     Ok((None, at))
 }
 
-/// An annotation [JLS 9.7].
+/// An annotation [JLS 9.7], and the place after its last token.
+///
+/// # Errors
+///
+/// - `Syntax` at the first token with which no annotation that begins so goes on.
+/// - `Memory` where there is no room for it.
 #[tactic(auto, unfolding(crate::specs::Reading::annotation))]
-fn annotation(
+pub fn annotation_at(
     alloc: Global,
     tokens: &[Symbol],
     bounds: Bounds,
@@ -79,7 +84,7 @@ fn next_annotation(
 ) -> Result<(AnnotationTrees, usize), Stop>
     ensures { Gives result (over_most spec.next_annotation tokens.now bounds found (text_of tokens.now) at) }
 {
-    let (next, at) = annotation(alloc, tokens, bounds, at)?;
+    let (next, at) = annotation_at(alloc, tokens, bounds, at)?;
     found.push(next)?;
     Ok((found, at))
 }

@@ -3,7 +3,7 @@ ghost use Rattle.bj_class.specs.Given.{over_most};
 ghost use Rattle.bj_class.specs.Reading as spec;
 
 use crate::annotations::annotations;
-use crate::modifiers::modifiers;
+use crate::modifiers::modifiers_at;
 use crate::names::maybe_names;
 use crate::prefix::Prefix;
 use bj_core::Span;
@@ -122,7 +122,7 @@ pub fn head_at(
     ensures { Gives result (over_most spec.head tokens.now bounds (text_of tokens.now) start) }
 {
     let (annotations, at) = annotations(alloc, tokens, bounds, start)?;
-    let (modifiers, at) = modifiers(alloc, tokens, bounds, at)?;
+    let (modifiers, at) = modifiers_at(alloc, tokens, bounds, at)?;
     let prefix = Prefix {
         start,
         annotations,

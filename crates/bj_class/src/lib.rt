@@ -15,6 +15,9 @@ mod parameters;
 mod prefix;
 mod tokens;
 
+pub use annotations::annotation_at;
 pub use head::{ClassHead, head_at};
 pub use imports::import_at;
 pub use member::member_at;
+pub use modifiers::modifiers_at;
+pub use tokens::{is_called, is_static_block};

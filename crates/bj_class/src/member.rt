@@ -7,7 +7,7 @@ use crate::bodies::body_at;
 use crate::constructors::constructor;
 use crate::fields::fields_rest;
 use crate::methods::{method_rest, void_method};
-use crate::modifiers::modifiers;
+use crate::modifiers::modifiers_at;
 use crate::prefix::Prefix;
 use crate::tokens::{is_called, is_static_block};
 use bj_expr::{Bounds, type_at};
@@ -46,7 +46,7 @@ fn declared(
     ensures { Gives result (over_bounds spec.declared tokens.now bounds start (text_of tokens.now) start) }
 {
     let (annotations, at) = annotations(alloc, tokens, bounds, start)?;
-    let (modifiers, at) = modifiers(alloc, tokens, bounds, at)?;
+    let (modifiers, at) = modifiers_at(alloc, tokens, bounds, at)?;
     let prefix = Prefix {
         start,
         annotations,

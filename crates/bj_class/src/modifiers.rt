@@ -87,9 +87,14 @@ fn more_modifiers(
     Ok((found, at))
 }
 
-/// Modifiers other than `default`; they may be none [JLS 8.1.1, 8.3.1, 8.4.3].
+/// Modifiers other than `default`, which may be none [JLS 8.1.1, 8.3.1, 8.4.3], and the place after them.
+///
+/// # Errors
+///
+/// - `Deep` where they are more than `bounds.most`.
+/// - `Memory` where there is no room for them.
 #[tactic(auto, unfolding(crate::specs::Reading::modifiers))]
-pub(crate) fn modifiers(
+pub fn modifiers_at(
     alloc: Global,
     tokens: &[Symbol],
     bounds: Bounds,

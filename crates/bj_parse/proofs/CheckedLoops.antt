@@ -1,12 +1,13 @@
 -- One turn of a loop over checked parts, as the code makes it.
-use Rattle.std.proofs.Common.{◌≡◌, ℕ, zero, suc, ◌+◌, ◌-◌, ◌<◌, ◌≤◌, Bool, true, false, cond, List, [], ◌∷◌, ◌++◌, sym, ap, ◌∙◌, subst, refl, arith}
+use Rattle.std.proofs.Common.{◌≡◌, ℕ, zero, suc, ◌+◌, ◌-◌, ◌<◌, ◌≤◌, Bool, true, false, cond, List, [], ◌∷◌, ◌++◌, Option, sym, ap, ◌∙◌, subst, refl, arith}
+use Rattle.bj_rules.specs.declared.misfit.Misfit.{Misfit}
 use Rattle.bj_grammar.specs.declared.stop.Stop.TheVariants as f
 use Rattle.bj_grammar.specs.declared.terminal.Terminal.{Terminal}
 use Rattle.bj_grammar.specs.Terminal.{terminal}
 use Rattle.bj_grammar.specs.Reader.{Text, Found, Wrong, Over, Parser, over}
 use Rattle.bj_parse.specs.declared.halt.Halt.{Halt}
 use Rattle.bj_parse.specs.declared.halt.Halt.TheVariants as halts
-use Rattle.bj_parse.specs.Checked.{Checked, Reads, Misfits, then_checked, checked_items, IsOverChecked, HaltsAs}
+use Rattle.bj_parse.specs.Checked.{Checked, Reads, Misfits, then_checked, checked_part, checked_items, IsOverChecked, HaltsAs}
 
 -- what stops a part stops the whole
 pub halts_then : {A B : Type 0} (e : Halt) (r : Checked A) (g : A → ℕ → Checked B) → HaltsAs e r → HaltsAs e (then_checked r g)
@@ -21,24 +22,24 @@ halts_then (halts.Unfit x) r g h = ap (λ (y : Checked _). then_checked y g) h
 pub halts_same : {A : Type 0} (e : Halt) (r q : Checked A) → q ≡ r → HaltsAs e r → HaltsAs e q
 halts_same e r q is h = subst (λ (x : Checked _). HaltsAs e x) (sym is) h
 
-module _ {A : Type 0} (test : Terminal → Bool) (item : Parser A) (check : A → ℕ → Checked A) (s : Text) where
+module _ {A : Type 0} (test : Terminal → Bool) (item : Parser A) (check : A → ℕ → Checked A) (early : ℕ → ℕ → Option Misfit) (s : Text) where
   abbrev run : ℕ → List A → ℕ → Checked (List A)
-  run n b i = checked_items test item check s n b i
+  run n b i = checked_items test item check early s n b i
 
   -- one part behind others
   abbrev turn_of : List A → ℕ → Checked (List A)
-  turn_of b i = then_checked (then_checked (Reads (item s i)) check) (λ a j. Reads (Found (b ++ a ∷ []) j))
+  turn_of b i = then_checked (checked_part check (early i) (item s i)) (λ a j. Reads (Found (b ++ a ∷ []) j))
 
   run_stop : (n : ℕ) (b : List A) (i : ℕ) → test (terminal (s i)) ≡ false → run n b i ≡ Reads (Found b i)
   unfolding checked_items
   run_stop zero b i e = ap (λ (c : Bool). cond c (Reads (over {A = List A} s i)) (Reads (Found b i))) e
-  run_stop (suc n) b i e = ap (λ (c : Bool). cond c (then_checked (then_checked (Reads (item s i)) check) (λ a j. run n (b ++ a ∷ []) j)) (Reads (Found b i))) e
+  run_stop (suc n) b i e = ap (λ (c : Bool). cond c (then_checked (checked_part check (early i) (item s i)) (λ a j. run n (b ++ a ∷ []) j)) (Reads (Found b i))) e
 
   run_turn : (n : ℕ) (b : List A) (i : ℕ) → test (terminal (s i)) ≡ true → run (suc n) b i ≡ then_checked (turn_of b i) (λ c j. run n c j)
   unfolding checked_items
-  run_turn n b i e = ap (λ (c : Bool). cond c (then_checked (then_checked (Reads (item s i)) check) (λ a j. run n (b ++ a ∷ []) j)) (Reads (Found b i))) e ∙ joined (then_checked (Reads (item s i)) check)
+  run_turn n b i e = ap (λ (c : Bool). cond c (then_checked (checked_part check (early i) (item s i)) (λ a j. run n (b ++ a ∷ []) j)) (Reads (Found b i))) e ∙ joined (checked_part check (early i) (item s i))
     where
-      joined : (r : Checked A) → then_checked r (λ a j. checked_items test item check s n (b ++ a ∷ []) j) ≡ then_checked (then_checked r (λ a j. Reads (Found (b ++ a ∷ []) j))) (λ c j. checked_items test item check s n c j)
+      joined : (r : Checked A) → then_checked r (λ a j. checked_items test item check early s n (b ++ a ∷ []) j) ≡ then_checked (then_checked r (λ a j. Reads (Found (b ++ a ∷ []) j))) (λ c j. checked_items test item check early s n c j)
       joined (Reads (Found a j)) = refl
       joined (Reads (Wrong k)) = refl
       joined (Reads (Over k)) = refl

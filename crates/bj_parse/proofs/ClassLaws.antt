@@ -1,8 +1,6 @@
 -- A class is what the checked reader finds, and its fault is the first.
-use Rattle.std.proofs.Common.{◌≡◌, ℕ, zero, suc, ◌+◌, ◌<◌, ◌≤◌, ◌⊎◌, inl, inr, Result, Ok, Err, List, [], ◌∷◌, length, refl, sym, ap, ◌∙◌, subst, arith, le_refl}
-use Rattle.std.proofs.lemmas.Bool.{cases_lt}
+use Rattle.std.proofs.Common.{◌≡◌, ℕ, suc, ◌+◌, ◌<◌, ◌≤◌, ◌⊎◌, inl, inr, Err, List, length, refl, sym, ap, ◌∙◌, subst, arith, le_refl}
 use Rattle.bj_core.specs.declared.types.Span.{Span}
-use Rattle.bj_core.specs.declared.fault.Fault.{Fault}
 use Rattle.bj_core.specs.declared.fault.FaultCode.{FaultCode}
 use Rattle.bj_core.specs.declared.fault.FaultCode.TheVariants as codes
 use Rattle.bj_core.specs.declared.fault.Refusal.{Refusal}
@@ -12,9 +10,8 @@ use Rattle.bj_lex.specs.declared.token.Tokens.{Tokens}
 use Rattle.bj_tree.specs.declared.class.ClassTree.{ClassTree}
 use Rattle.bj_rules.specs.declared.misfit.Misfit.{Misfit}
 use Rattle.bj_grammar.specs.declared.stop.Stop.TheVariants as stops
-use Rattle.bj_grammar.specs.declared.terminal.Terminal.{Terminal}
-use Rattle.bj_grammar.specs.Reader.{Text, Answer, Found, Wrong, Over}
-use Rattle.bj_grammar.specs.Given.{text_of, place_of, IsOver}
+use Rattle.bj_grammar.specs.Reader.{Answer, Found, Wrong, Over}
+use Rattle.bj_grammar.specs.Given.{text_of, place_of}
 use Rattle.bj_grammar.proofs.Laws.{Rel, Laws, Outcome}
 use Rattle.bj_stmt.proofs.Small.{Any}
 use Rattle.bj_class.specs.Grammar.{File}
@@ -24,12 +21,14 @@ use Rattle.bj_parse.specs.declared.halt.Halt.{Halt}
 use Rattle.bj_parse.specs.declared.halt.Halt.TheVariants as halts
 use Rattle.bj_parse.specs.Line.{most_nodes, IsStuck, spot}
 use Rattle.bj_parse.specs.Checked.{Checked, Reads, Misfits, IsOverChecked, HaltsAs, checked_file}
-use Rattle.bj_parse.specs.Class.{IsFile, Fits, IsClass, FirstMisfit, FirstFault, TooDeep, IsBehind, member_code, GivesClass, IsFirst, ClassFault, the_file, IsRefusalOf}
+use Rattle.bj_parse.specs.Class.{IsClass, FirstMisfit, FirstFault, TooDeep, IsBehind, member_code, GivesClass, IsFirst, ClassFault, the_file, IsRefusalOf}
 use Rattle.bj_parse.proofs.Whole as whole
 use Rattle.bj_parse.proofs.Items.{IsHalted}
 use Rattle.bj_parse.proofs.FileRun.{Parts}
 use Rattle.bj_parse.proofs.FileWhole as file
 use Rattle.bj_parse.proofs.PartLaws.{parts}
+use Rattle.bj_parse.proofs.EarlyNeeded.{Early}
+use Rattle.bj_parse.proofs.EarlyMarks.{early}
 
 module _ (tokens : Tokens) where
   abbrev items : List Token
@@ -40,6 +39,9 @@ module _ (tokens : Tokens) where
 
   abbrev p : Parts (place_of items) steps most_nodes
   p = parts (place_of items) steps
+
+  abbrev marks : Early items steps most_nodes
+  marks = early items
 
   abbrev FileRel : Rel ClassTree
   FileRel = λ s a i j. File tokens.class (place_of items) s a i j
@@ -57,17 +59,17 @@ module _ (tokens : Tokens) where
 
   -- what is a class is read
   class_read : (a : ClassTree) → IsClass tokens.class items a → the_file tokens ≡ Reads (Found a (length items))
-  class_read a d = file.file_fits items steps most_nodes p tokens.class a (length items) (whole.found _ FileRel Any Deep items laws (λ a. tt) a d.stands d.low) d.fits d.low
+  class_read a d = file.file_fits items steps most_nodes p marks tokens.class a (length items) (whole.found _ FileRel Any Deep items laws (λ a. tt) a d.stands d.low) d.fits d.low
 
   found_plain : (a : ClassTree) (at : ℕ) → the_file tokens ≡ Reads (Found a at) → plain ≡ Found a at
-  found_plain a at e = (file.file_found items steps most_nodes p tokens.class a at e).plain
+  found_plain a at e = (file.file_found items steps most_nodes p marks tokens.class a at e).plain
 
   at_end : (a : ClassTree) (at : ℕ) → the_file tokens ≡ Reads (Found a at) → length items ≤ at → at ≡ length items
   at_end a at e le = let h = whole.not_past _ FileRel Any Deep items laws (λ a. tt) a at (found_plain a at e) in omega arith
 
   pub whole_class : (a : ClassTree) (at : ℕ) → the_file tokens ≡ Reads (Found a at) → length items ≤ at → IsClass tokens.class items a
   whole_class a at e le =
-      let f = file.file_found items steps most_nodes p tokens.class a at e in
+      let f = file.file_found items steps most_nodes p marks tokens.class a at e in
       record { stands = whole.stands _ FileRel Any Deep items laws (λ a. tt) a (f.plain ∙ ap (Found a) (at_end a at e le)); fits = f.fits; low = f.low }
 
   same_found : (r : Checked ClassTree) (a b : ClassTree) (m n : ℕ) → r ≡ Reads (Found a m) → r ≡ Reads (Found b n) → (a ≡ b) × (m ≡ n)
@@ -82,7 +84,7 @@ module _ (tokens : Tokens) where
   -- ---- behind a class
 
   no_misfit_found : (a : ClassTree) (at : ℕ) → the_file tokens ≡ Reads (Found a at) → (x : Misfit) → FirstMisfit items x → ⊥
-  no_misfit_found a at e x d = subst IsHalted e (file.file_met items steps most_nodes p tokens.class x d)
+  no_misfit_found a at e x d = subst IsHalted e (file.file_met items steps most_nodes p marks tokens.class x d)
 
   first_of : (k : ℕ) → IsStuck items plain k → FirstFault tokens.class items k
   first_of k stuck = record {
@@ -117,20 +119,20 @@ module _ (tokens : Tokens) where
 
   pub stuck_first : (k : ℕ) → the_file tokens ≡ Reads (Wrong k) → IsFirst tokens (spot tokens k) (member_code (text_of items) k)
   stuck_first k e =
-      let plainly : plain ≡ Wrong k = file.file_wrong items steps most_nodes p tokens.class k e in
+      let plainly : plain ≡ Wrong k = file.file_wrong items steps most_nodes p marks tokens.class k e in
       record {
         index = k;
         first = first_of k (inl plainly);
         place = refl;
         coded = inr (no_behind k plainly, refl);
-        fits = λ x d. subst IsHalted e (file.file_met items steps most_nodes p tokens.class x d);
+        fits = λ x d. subst IsHalted e (file.file_met items steps most_nodes p marks tokens.class x d);
       }
 
   too_deep : IsOverChecked (the_file tokens) → TooDeep tokens.class items
   too_deep o a d = of (laws.complete (text_of items) 0 a (length items) d tt)
     where
       of : Outcome steps Deep plain a 0 (length items) → DeepMembers most_nodes a.members
-      of (inl e) = file.file_deep items steps most_nodes p tokens.class a (length items) o e
+      of (inl e) = file.file_deep items steps most_nodes p marks tokens.class a (length items) o e
       of (inr x) = elim (x.1) [ inl y ↦ y | inr y ↦ absurd (let z : steps + 0 ≤ length items = y in omega arith) ]
 
   -- no class is read where reading halts
@@ -158,7 +160,7 @@ module _ (tokens : Tokens) where
   refused_fault (halts.Stopped stops.Memory) (refusals.Fault f) h is = absurd is
   refused_fault (halts.Stopped (stops.Syntax at)) (refusals.Fault f) h is = (is.0, inr (inr (moved f.at (spot tokens at) f.code _ is.1 is.2 (stuck_first at h))))
   refused_fault (halts.Stopped (stops.Deep at)) (refusals.Fault f) h is = (is.0, inl (is.2, h, too_deep h))
-  refused_fault (halts.Unfit x) (refusals.Fault f) h is = (is.0, inr (inl (told x f.at f.code is.1 is.2 (file.file_misfit items steps most_nodes p tokens.class x h))))
+  refused_fault (halts.Unfit x) (refusals.Fault f) h is = (is.0, inr (inl (told x f.at f.code is.1 is.2 (file.file_misfit items steps most_nodes p marks tokens.class x h))))
 
   pub behind_fault : (a : ClassTree) (at : ℕ) (r : Refusal) → the_file tokens ≡ Reads (Found a at) → at < length items
       → (r ≡ refusals.NoMemory) ⊎ (r ≡ refusals.Fault (record { class = tokens.class; at = spot tokens at; code = codes.Syntax })) → ClassFault (Err r) tokens

@@ -1,27 +1,23 @@
 -- The parts of a file, each checked as it stands, beside its grammar.
-use Rattle.std.proofs.Common.{◌≡◌, ℕ, zero, suc, ◌<◌, ◌≤◌, ◌⊎◌, inl, inr, Bool, true, false, cond, List, [], ◌∷◌, ◌++◌, Option, Some, None, map, refl, sym, ap, ◌∙◌, subst, arith}
-use Rattle.std.specs.Prelude.{nat_lt}
+use Rattle.std.proofs.Common.{◌≡◌, ℕ, ◌⊎◌, inl, inr, Bool, true, false, cond, List, [], ◌∷◌, ◌++◌, Option, Some, None, refl, sym, ap, ◌∙◌, subst, arith}
 use Rattle.std.proofs.lemmas.Bool.{ltb-true, ltb-false}
 use Rattle.bj_core.specs.declared.types.Span.{Span}
 use Rattle.bj_lex.specs.declared.token.Token.{Token}
 use Rattle.bj_tree.specs.declared.stmt.StmtTree.{StmtTree}
 use Rattle.bj_tree.specs.declared.class.ClassKind.{ClassKind}
 use Rattle.bj_tree.specs.declared.class.ImportTree.{ImportTree}
-use Rattle.bj_tree.specs.declared.class.ClassTree.{ClassTree}
 use Rattle.bj_tree.specs.declared.member.MemberTree.{MemberTree}
 use Rattle.bj_tree.specs.declared.member.MemberTree.TheVariants as m
 use Rattle.bj_rules.specs.declared.misfit.Misfit.{Misfit}
-use Rattle.bj_rules.specs.Rules.{import_misfit, head_misfit, member_misfit}
-use Rattle.bj_grammar.specs.declared.terminal.Terminal.{Terminal}
+use Rattle.bj_rules.specs.Rules.{import_misfit, member_misfit}
 use Rattle.bj_grammar.specs.declared.terminal.Terminal.TheVariants as t
 use Rattle.bj_grammar.specs.Terminal.{terminal, same_terminal}
-use Rattle.bj_grammar.specs.Reader.{Text, Answer, Found, Wrong, Over, Parser, and_then, ◌>>=◌, pure, loop}
-use Rattle.bj_grammar.specs.Given.{IsOver, text_of, place_of}
+use Rattle.bj_grammar.specs.Reader.{Text, Found, Wrong, Over}
+use Rattle.bj_grammar.specs.Given.{text_of, place_of}
 use Rattle.bj_grammar.proofs.Laws as laws_of
 use Rattle.bj_grammar.proofs.Laws.{Rel, Laws, Then, Same, Steps, is_kind}
 use Rattle.bj_expr.specs.Reading.{is}
 use Rattle.bj_stmt.specs.Reading.{inside}
-use Rattle.bj_stmt.specs.Heights.{stmt_height}
 use Rattle.bj_stmt.proofs.Expressions.{Never}
 use Rattle.bj_stmt.proofs.Small.{Any}
 use Rattle.bj_class.specs.declared.head.ClassHead.{ClassHead}
@@ -30,10 +26,11 @@ use Rattle.bj_class.specs.Grammar.{Imports, Import, Head, Members, Member, File}
 use Rattle.bj_class.specs.Deep.{DeepBody, DeepMember, DeepMembers}
 use Rattle.bj_class.specs.Reading as r
 use Rattle.bj_parse.specs.Checked as k
-use Rattle.bj_parse.specs.Checked.{Checked, Reads, Misfits, then_checked, unless_misfit, checked_items, IsOverChecked, is_deep_member, check_import, check_head, check_member, checked_file}
-use Rattle.bj_parse.specs.Class.{ImportsFit, HeadFits, MembersFit, Fits, FirstMisfit, of_import, of_head, of_member}
-use Rattle.bj_parse.proofs.Items as items
-use Rattle.bj_parse.proofs.Items.{IsHalted, Items, then_found, then_wrong, then_over, then_misfit, then_halted, reads_is}
+use Rattle.bj_parse.specs.Checked.{Checked, Reads, Misfits, then_checked, unless_misfit, checked_items, IsOverChecked, is_deep_member, check_import, check_head, check_member, nothing_early, checked_file}
+use Rattle.bj_parse.specs.Early.{early_member}
+use Rattle.bj_parse.specs.Class.{ImportsFit, MembersFit}
+use Rattle.bj_parse.proofs.EarlyNeeded.{Early, UnfitOfMember}
+use Rattle.bj_parse.proofs.Items.{IsHalted, Items, reads_is}
 
 -- what is asked of the readers of the parts
 pub record Parts (place : ℕ → Span) (most room : ℕ) : Type 1 where
@@ -139,7 +136,7 @@ members_last kind class (x ∷ b) a h = members_last kind class b a h.1
 
 -- ---- the parts
 
-module _ (tokens : List Token) (most room : ℕ) (parts : Parts (place_of tokens) most room) where
+module _ (tokens : List Token) (most room : ℕ) (parts : Parts (place_of tokens) most room) (early : Early tokens most room) where
   abbrev P : ℕ → Span
   P = place_of tokens
 
@@ -164,7 +161,10 @@ module _ (tokens : List Token) (most room : ℕ) (parts : Parts (place_of tokens
   abbrev NoTall : List ImportTree → Type 0
   NoTall b = ⊥
 
-  pub import_items : Items most (is t.Import) (r.import_at P most) check_import S ImportRel Never AreImports ImportFits ImportsFit ImportMis NoTall
+  abbrev NeverBegun : ℕ → Misfit → Type 0
+  NeverBegun i x = ⊥
+
+  pub import_items : Items most (is t.Import) (r.import_at P most) check_import nothing_early S ImportRel Never AreImports ImportFits ImportsFit ImportMis NoTall NeverBegun
   import_items = record {
     laws = parts.import_laws;
     begins = λ a i j d. is_kind _ _ (parts.import_begins S a i j d);
@@ -180,6 +180,10 @@ module _ (tokens : List Token) (most room : ℕ) (parts : Parts (place_of tokens
     fit_last = imports_last;
     tall_last = λ b a h. h;
     tall_before = λ b a h. h;
+    early_is = λ i n x is e. absurd (cc);
+    begun_met = λ i n x h is. absurd h;
+    begun_whole = λ i a j x h d. absurd h;
+    begun_begins = λ i x h. absurd h;
   }
 
   module _ (h : ClassHead) (start : ℕ) where
@@ -197,6 +201,9 @@ module _ (tokens : List Token) (most room : ℕ) (parts : Parts (place_of tokens
 
     abbrev AllFit : List MemberTree → Type 0
     AllFit b = MembersFit h.kind h.name.name b × (DeepMembers room b → ⊥)
+
+    abbrev MemberBegun : ℕ → Misfit → Type 0
+    MemberBegun i x = UnfitOfMember tokens h.kind i x
 
     cases_of : (b : Bool) → (b ≡ true) ⊎ (b ≡ false)
     cases_of true = inl refl
@@ -253,7 +260,7 @@ module _ (tokens : List Token) (most room : ℕ) (parts : Parts (place_of tokens
         of (inl e) = absurd (f.1 (deep_last room b a (deep_member room a e)))
         of (inr e) = e
 
-    pub member_items : Items most inside (r.member P most room) (check_member room h) S MemberRel (DeepMember room) AreMembers MemberFits AllFit MemberMis (DeepMembers room)
+    pub member_items : Items most inside (r.member P most room) (check_member room h) (early_member P most h.kind S) S MemberRel (DeepMember room) AreMembers MemberFits AllFit MemberMis (DeepMembers room) MemberBegun
     member_items = record {
       laws = parts.member_laws;
       begins = λ a i j d. parts.member_begins S a i j d;
@@ -269,4 +276,8 @@ module _ (tokens : List Token) (most room : ℕ) (parts : Parts (place_of tokens
       fit_last = all_last;
       tall_last = deep_last room;
       tall_before = deep_before room;
+      early_is = early.member_early h.kind;
+      begun_met = early.member_met h.kind;
+      begun_whole = λ i a j x b d. early.member_whole h.kind h.name.name i j a x b d;
+      begun_begins = early.member_begins h.kind;
     }

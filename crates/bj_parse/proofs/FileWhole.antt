@@ -1,16 +1,15 @@
 -- A file, each part of which is checked as it stands, beside the file of the grammar.
-use Rattle.std.proofs.Common.{◌≡◌, ℕ, zero, suc, ◌<◌, ◌≤◌, ◌⊎◌, inl, inr, Bool, true, false, cond, List, [], ◌∷◌, ◌++◌, Option, Some, None, length, refl, sym, ap, ◌∙◌, subst, arith, le_refl}
+use Rattle.std.proofs.Common.{◌≡◌, ℕ, suc, ◌⊎◌, inl, inr, Bool, true, false, cond, List, [], ◌∷◌, ◌++◌, Option, Some, None, refl, sym, ap, ◌∙◌, subst}
 use Rattle.bj_core.specs.declared.types.Span.{Span}
 use Rattle.bj_lex.specs.declared.token.Token.{Token}
 use Rattle.bj_tree.specs.declared.class.ImportTree.{ImportTree}
 use Rattle.bj_tree.specs.declared.class.ClassTree.{ClassTree}
 use Rattle.bj_tree.specs.declared.member.MemberTree.{MemberTree}
 use Rattle.bj_rules.specs.declared.misfit.Misfit.{Misfit}
-use Rattle.bj_rules.specs.Rules.{head_misfit, member_misfit}
-use Rattle.bj_grammar.specs.declared.terminal.Terminal.{Terminal}
+use Rattle.bj_rules.specs.Rules.{head_misfit}
 use Rattle.bj_grammar.specs.declared.terminal.Terminal.TheVariants as t
 use Rattle.bj_grammar.specs.Terminal.{terminal, same_terminal}
-use Rattle.bj_grammar.specs.Reader.{Text, Answer, Found, Wrong, Over, Parser, and_then, ◌>>=◌, pure, loop, here, sign}
+use Rattle.bj_grammar.specs.Reader.{Text, Answer, Found, Wrong, Over, and_then, ◌>>=◌, pure, loop}
 use Rattle.bj_grammar.specs.Given.{IsOver, text_of, place_of}
 use Rattle.bj_grammar.proofs.Laws as laws_of
 use Rattle.bj_grammar.proofs.Laws.{Rel, Laws, Outcome, and_then_found}
@@ -22,15 +21,16 @@ use Rattle.bj_class.specs.Grammar as g
 use Rattle.bj_class.specs.Grammar.{Imports, Import, Head, Members, Member, File, class_tree}
 use Rattle.bj_class.specs.Deep.{DeepMembers}
 use Rattle.bj_class.specs.Reading as r
-use Rattle.bj_parse.specs.Checked as k
-use Rattle.bj_parse.specs.Checked.{Checked, Reads, Misfits, then_checked, IsOverChecked, check_head, checked_file, checked_imports, checked_head, checked_members, checked_body, closed}
-use Rattle.bj_parse.specs.Class.{ImportsFit, HeadFits, MembersFit, Fits, FirstMisfit, of_import, of_head, of_member}
+use Rattle.bj_parse.specs.Checked.{Checked, Reads, Misfits, then_checked, checked_part, IsOverChecked, check_head, checked_file, checked_imports, checked_head, checked_members, checked_body, closed}
+use Rattle.bj_parse.specs.Early.{early_head}
+use Rattle.bj_parse.specs.Class.{ImportsFit, HeadFits, MembersFit, Fits, FirstMisfit, of_import, of_head, of_member, of_mark_of_head, of_mark_of_member}
+use Rattle.bj_parse.proofs.EarlyNeeded.{Early}
 use Rattle.bj_parse.proofs.Items as items
-use Rattle.bj_parse.proofs.Items.{IsHalted, then_found, then_wrong, then_over, then_misfit, then_halted, over_checked_halted, reads_is}
+use Rattle.bj_parse.proofs.Items.{IsHalted, then_found, then_wrong, then_over, then_misfit, then_halted, part_found, part_wrong, part_misfit, part_over, part_halted, over_checked_halted, reads_is}
 use Rattle.bj_parse.proofs.FileRun as run
 use Rattle.bj_parse.proofs.FileRun.{Parts, misfit_found, misfit_wrong, misfit_is, misfit_no_over, misfit_fit, misfit_met}
 
-module _ (tokens : List Token) (most room : ℕ) (parts : Parts (place_of tokens) most room) (file : List ℕ) where
+module _ (tokens : List Token) (most room : ℕ) (parts : Parts (place_of tokens) most room) (early : Early tokens most room) (file : List ℕ) where
   abbrev P : ℕ → Span
   P = place_of tokens
 
@@ -87,7 +87,7 @@ module _ (tokens : List Token) (most room : ℕ) (parts : Parts (place_of tokens
 
   imports_found : (is : List ImportTree) (i : ℕ) → the_imports ≡ Reads (Found is i) → (plain_imports ≡ Found is i) × ImportsFit is
   imports_found is i e =
-      let w = items.found most _ _ _ S _ _ _ _ _ _ _ (run.import_items tokens most room parts) most [] 0 is i tt e in
+      let w = items.found most _ _ _ _ S _ _ _ _ _ _ _ _ (run.import_items tokens most room parts early) most [] 0 is i tt e in
       (imports_are ∙ w.0, w.1)
 
   imports_stand : (is : List ImportTree) (i : ℕ) → plain_imports ≡ Found is i → Imports P S is 0 i
@@ -96,25 +96,25 @@ module _ (tokens : List Token) (most room : ℕ) (parts : Parts (place_of tokens
   -- ---- what stands before the members
 
   head_found : (i : ℕ) (h : ClassHead) (n : ℕ) → the_head i ≡ Reads (Found h n) → (r.head P most S i ≡ Found h n) × HeadFits h
-  head_found i h n e = of (then_found (Reads (r.head P most S i)) check_head h n e)
+  head_found i h n e = of (part_found check_head (early_head P most S i) (r.head P most S i) h n e)
     where
-      of : (c : ClassHead) × (m : ℕ) × (Reads (r.head P most S i) ≡ Reads (Found c m)) × (check_head c m ≡ Reads (Found h n)) → (r.head P most S i ≡ Found h n) × HeadFits h
+      of : (c : ClassHead) × (m : ℕ) × (r.head P most S i ≡ Found c m) × (check_head c m ≡ Reads (Found h n)) → (r.head P most S i ≡ Found h n) × HeadFits h
       of w =
           let v = misfit_found (head_misfit (w.0).annotations (w.0).modifiers (w.0).kind) w.0 h w.1 n w.3 in
-          (reads_is _ _ w.2 ∙ (ap (λ (c : ClassHead). Found c w.1) (sym v.0) ∙ ap (Found h) (sym v.1)), subst HeadFits (sym v.0) v.2)
+          (w.2 ∙ (ap (λ (c : ClassHead). Found c w.1) (sym v.0) ∙ ap (Found h) (sym v.1)), subst HeadFits (sym v.0) v.2)
 
   head_wrong : (i n : ℕ) → the_head i ≡ Reads (Wrong n) → r.head P most S i ≡ Wrong n
-  head_wrong i n e = of (then_wrong (Reads (r.head P most S i)) check_head n e)
+  head_wrong i n e = of (part_wrong check_head (early_head P most S i) (r.head P most S i) n e)
     where
-      of : ((c : ClassHead) × (m : ℕ) × (Reads (r.head P most S i) ≡ Reads (Found c m)) × (check_head c m ≡ Reads (Wrong n))) ⊎ (Reads (r.head P most S i) ≡ Reads (Wrong n)) → r.head P most S i ≡ Wrong n
-      of (inl w) = absurd (misfit_wrong (head_misfit (w.0).annotations (w.0).modifiers (w.0).kind) w.0 w.1 n w.3)
-      of (inr e) = reads_is _ _ e
+      of : ((c : ClassHead) × (m : ℕ) × (check_head c m ≡ Reads (Wrong n))) ⊎ (r.head P most S i ≡ Wrong n) → r.head P most S i ≡ Wrong n
+      of (inl w) = absurd (misfit_wrong (head_misfit (w.0).annotations (w.0).modifiers (w.0).kind) w.0 w.1 n w.2)
+      of (inr e) = e
 
   -- ---- the members
 
   members_found : (h : ClassHead) (n : ℕ) (ms : List MemberTree) (o : ℕ) → the_members h n ≡ Reads (Found ms o) → (plain_members n ≡ Found ms o) × MembersFit h.kind h.name.name ms × (DeepMembers room ms → ⊥)
   members_found h n ms o e =
-      let w = items.found most _ _ _ S _ _ _ _ _ _ _ (run.member_items tokens most room parts h n) most [] n ms o (tt, (λ x. x)) e in
+      let w = items.found most _ _ _ _ S _ _ _ _ _ _ _ _ (run.member_items tokens most room parts early h n) most [] n ms o (tt, (λ x. x)) e in
       (members_are n ∙ w.0, w.1.0, w.1.1)
 
   -- ---- found
@@ -182,7 +182,7 @@ module _ (tokens : List Token) (most room : ℕ) (parts : Parts (place_of tokens
     where
       at_members : (is : List ImportTree) (h : ClassHead) (i : ℕ) → ((ms : List MemberTree) × (o : ℕ) × (the_members h i ≡ Reads (Found ms o)) × (Reads (closed P most room file is h ms S o) ≡ Reads (Wrong n))) ⊎ (the_members h i ≡ Reads (Wrong n)) → plain_rest is h i ≡ Wrong n
       at_members is h i (inl w) = ap (λ (q : Answer (List MemberTree)). and_then q (λ ms o. closed P most room file is h ms S o)) (members_found h i w.0 w.1 w.2).0 ∙ reads_is _ _ w.3
-      at_members is h i (inr e) = ap (λ (q : Answer (List MemberTree)). and_then q (λ ms o. closed P most room file is h ms S o)) (members_are i ∙ items.wrong most _ _ _ S _ _ _ _ _ _ _ (run.member_items tokens most room parts h i) most [] i n e)
+      at_members is h i (inr e) = ap (λ (q : Answer (List MemberTree)). and_then q (λ ms o. closed P most room file is h ms S o)) (members_are i ∙ items.wrong most _ _ _ _ S _ _ _ _ _ _ _ _ (run.member_items tokens most room parts early h i) most [] i n e)
 
       at_head : (is : List ImportTree) (i : ℕ) → ((h : ClassHead) × (m : ℕ) × (the_head i ≡ Reads (Found h m)) × (the_rest is h m ≡ Reads (Wrong n))) ⊎ (the_head i ≡ Reads (Wrong n)) → plain_body is i ≡ Wrong n
       at_head is i (inl w) = ap (λ (q : Answer ClassHead). and_then q (λ h n. plain_rest is h n)) (head_found i w.0 w.1 w.2).0 ∙ at_members is w.0 w.1 (then_wrong (the_members w.0 w.1) (λ ms o. Reads (closed P most room file is w.0 ms S o)) n w.3)
@@ -190,7 +190,7 @@ module _ (tokens : List Token) (most room : ℕ) (parts : Parts (place_of tokens
 
       of : ((is : List ImportTree) × (i : ℕ) × (the_imports ≡ Reads (Found is i)) × (the_body is i ≡ Reads (Wrong n))) ⊎ (the_imports ≡ Reads (Wrong n)) → and_then plain_imports (λ is i. plain_body is i) ≡ Wrong n
       of (inl w) = ap (λ (q : Answer (List ImportTree)). and_then q (λ is i. plain_body is i)) (imports_found w.0 w.1 w.2).0 ∙ at_head w.0 w.1 (then_wrong (the_head w.1) (λ h m. the_rest w.0 h m) n w.3)
-      of (inr e) = ap (λ (q : Answer (List ImportTree)). and_then q (λ is i. plain_body is i)) (imports_are ∙ items.wrong most _ _ _ S _ _ _ _ _ _ _ (run.import_items tokens most room parts) most [] 0 n e)
+      of (inr e) = ap (λ (q : Answer (List ImportTree)). and_then q (λ is i. plain_body is i)) (imports_are ∙ items.wrong most _ _ _ _ S _ _ _ _ _ _ _ _ (run.import_items tokens most room parts early) most [] 0 n e)
 
   -- ---- a misfit
 
@@ -203,24 +203,26 @@ module _ (tokens : List Token) (most room : ℕ) (parts : Parts (place_of tokens
       at_members is i h n y z (inr e) =
           let v = imports_found is i y in
           let w = head_found i h n z in
-          let u = items.misfit most _ _ _ S _ _ _ _ _ _ _ (run.member_items tokens most room parts h n) most [] n x (g.no_members refl refl) (tt, (λ x. x)) e in
-          of_member (imports_stand is i v.0) v.1 (parts.head_laws.sound S i h n w.0) w.1 u.stand u.fit.0 u.is_part u.mis
+          let u = items.misfit most _ _ _ _ S _ _ _ _ _ _ _ _ (run.member_items tokens most room parts early h n) most [] n x (g.no_members refl refl) (tt, (λ x. x)) e in
+          elim u.how [
+            | inl m ↦ of_member (imports_stand is i v.0) v.1 (parts.head_laws.sound S i h n w.0) w.1 u.stand u.fit.0 m.is_part m.mis
+            | inr b ↦ of_mark_of_member (imports_stand is i v.0) v.1 (parts.head_laws.sound S i h n w.0) w.1 u.stand u.fit.0 b
+          ]
 
       at_head : (is : List ImportTree) (i : ℕ) → the_imports ≡ Reads (Found is i) → ((h : ClassHead) × (m : ℕ) × (the_head i ≡ Reads (Found h m)) × (the_rest is h m ≡ Misfits x)) ⊎ (the_head i ≡ Misfits x) → FirstMisfit tokens x
       at_head is i y (inl w) = at_members is i w.0 w.1 y w.2 (then_misfit (the_members w.0 w.1) (λ ms o. Reads (closed P most room file is w.0 ms S o)) x w.3)
-      at_head is i y (inr e) = last (then_misfit (Reads (r.head P most S i)) check_head x e)
+      at_head is i y (inr e) = last (imports_found is i y) (part_misfit check_head (early_head P most S i) (r.head P most S i) x e)
         where
-          last : ((c : ClassHead) × (m : ℕ) × (Reads (r.head P most S i) ≡ Reads (Found c m)) × (check_head c m ≡ Misfits x)) ⊎ (Reads (r.head P most S i) ≡ Misfits x) → FirstMisfit tokens x
-          last (inl w) =
-              let v = imports_found is i y in
-              of_head (imports_stand is i v.0) v.1 (parts.head_laws.sound S i w.0 w.1 (reads_is _ _ w.2)) (misfit_is (head_misfit (w.0).annotations (w.0).modifiers (w.0).kind) w.0 w.1 x w.3)
-          last (inr e) = absurd (cc)
+          last : (plain_imports ≡ Found is i) × ImportsFit is → ((c : ClassHead) × (m : ℕ) × (r.head P most S i ≡ Found c m) × (check_head c m ≡ Misfits x))
+              ⊎ ((k : ℕ) × (r.head P most S i ≡ Wrong k) × (early_head P most S i k ≡ Some x)) → FirstMisfit tokens x
+          last v (inl w) = of_head (imports_stand is i v.0) v.1 (parts.head_laws.sound S i w.0 w.1 w.2) (misfit_is (head_misfit (w.0).annotations (w.0).modifiers (w.0).kind) w.0 w.1 x w.3)
+          last v (inr w) = of_mark_of_head (imports_stand is i v.0) v.1 (early.head_early i w.0 x w.1 w.2)
 
       of : ((is : List ImportTree) × (i : ℕ) × (the_imports ≡ Reads (Found is i)) × (the_body is i ≡ Misfits x)) ⊎ (the_imports ≡ Misfits x) → FirstMisfit tokens x
       of (inl w) = at_head w.0 w.1 w.2 (then_misfit (the_head w.1) (λ h m. the_rest w.0 h m) x w.3)
       of (inr e) =
-          let u = items.misfit most _ _ _ S _ _ _ _ _ _ _ (run.import_items tokens most room parts) most [] 0 x (g.no_imports refl refl) tt e in
-          of_import u.stand u.fit u.is_part u.mis
+          let u = items.misfit most _ _ _ _ S _ _ _ _ _ _ _ _ (run.import_items tokens most room parts early) most [] 0 x (g.no_imports refl refl) tt e in
+          elim u.how [ inl m ↦ of_import u.stand u.fit m.is_part m.mis | inr b ↦ absurd b ]
 
   -- ---- a misfit that stands is met
 
@@ -254,7 +256,7 @@ module _ (tokens : List Token) (most room : ℕ) (parts : Parts (place_of tokens
     where
       of : (q : Checked (List ImportTree)) → the_imports ≡ q → (q ≡ Reads (Found is i)) ⊎ IsHalted q
       of (Reads (Found js j)) same = let w = imports_found js j same in inl (ap Reads (sym w.0 ∙ e))
-      of (Reads (Wrong n)) same = let w = imports_are ∙ items.wrong most _ _ _ S _ _ _ _ _ _ _ (run.import_items tokens most room parts) most [] 0 n same in let clash : Wrong n ≡ Found is i = sym w ∙ e in absurd (cc)
+      of (Reads (Wrong n)) same = let w = imports_are ∙ items.wrong most _ _ _ _ S _ _ _ _ _ _ _ _ (run.import_items tokens most room parts early) most [] 0 n same in let clash : Wrong n ≡ Found is i = sym w ∙ e in absurd (cc)
       of (Reads (Over n)) same = inr tt
       of (Misfits x) same = inr tt
 
@@ -273,7 +275,7 @@ module _ (tokens : List Token) (most room : ℕ) (parts : Parts (place_of tokens
 
       of : (q : Checked (List ImportTree)) → the_imports ≡ q → IsHalted q
       of (Reads (Found js j)) same = no_over plain_imports o js j (imports_found js j same).0
-      of (Reads (Wrong n)) same = no_wrong plain_imports o n (imports_are ∙ items.wrong most _ _ _ S _ _ _ _ _ _ _ (run.import_items tokens most room parts) most [] 0 n same)
+      of (Reads (Wrong n)) same = no_wrong plain_imports o n (imports_are ∙ items.wrong most _ _ _ _ S _ _ _ _ _ _ _ _ (run.import_items tokens most room parts early) most [] 0 n same)
       of (Reads (Over n)) same = tt
       of (Misfits x) same = tt
 
@@ -290,12 +292,7 @@ module _ (tokens : List Token) (most room : ℕ) (parts : Parts (place_of tokens
       of (inr o) = then_halted the_imports (λ is i. the_body is i) (imports_over o)
 
   head_over : (i : ℕ) → IsOver (r.head P most S i) → IsHalted (the_head i)
-  head_over i o = of (r.head P most S i) o
-    where
-      of : (q : Answer ClassHead) → IsOver q → IsHalted (then_checked (Reads q) check_head)
-      of (Found a j) h = absurd h
-      of (Wrong n) h = absurd h
-      of (Over n) h = tt
+  head_over i o = part_over check_head (early_head P most S i) (r.head P most S i) o
 
   -- behind what stands before the members
   behind_head : (is : List ImportTree) (h : ClassHead) (i n : ℕ) → Head P S h i n → ((check_head h n ≡ Reads (Found h n)) → IsHalted (the_rest is h n)) → IsHalted (the_body is i)
@@ -310,13 +307,13 @@ module _ (tokens : List Token) (most room : ℕ) (parts : Parts (place_of tokens
       checked (Misfits x) e = tt
 
       of : (r.head P most S i ≡ Found h n) ⊎ IsOver (r.head P most S i) → IsHalted (the_body is i)
-      of (inl e) = subst (λ (q : Answer ClassHead). IsHalted (then_checked (then_checked (Reads q) check_head) (λ h n. the_rest is h n))) (sym e) (checked (check_head h n) refl)
+      of (inl e) = subst (λ (q : Answer ClassHead). IsHalted (then_checked (checked_part check_head (early_head P most S i) q) (λ h n. the_rest is h n))) (sym e) (checked (check_head h n) refl)
       of (inr o) = then_halted (the_head i) (λ h n. the_rest is h n) (head_over i o)
 
   pub file_met : (x : Misfit) → FirstMisfit tokens x → IsHalted (checked_file P most room file S)
   file_met x (of_import {is} {a} {i} {j} d fit e mis) =
       subst IsHalted (sym checked_is) (then_halted the_imports (λ is i. the_body is i)
-      (items.met most _ _ _ S _ _ _ _ _ _ _ (run.import_items tokens most room parts) most [] is a 0 i j x (parts.import_steps S is 0 i d) e mis))
+      (items.met most _ _ _ _ S _ _ _ _ _ _ _ _ (run.import_items tokens most room parts early) most [] is a 0 i j x (parts.import_steps S is 0 i d) e mis))
   file_met x (of_head {is} {h} {i} {j} d fit e mis) =
       behind_imports is i d (parts.head_begins S h i j e)
       (behind_head is h i j e (λ same. absurd (not_both (head_misfit h.annotations h.modifiers h.kind) mis (misfit_found (head_misfit h.annotations h.modifiers h.kind) h h j j same).2)))
@@ -327,7 +324,16 @@ module _ (tokens : List Token) (most room : ℕ) (parts : Parts (place_of tokens
   file_met x (of_member {is} {h} {ms} {a} {i} {k = n} {n = o} {j} d fit e fits all all_fit part mis) =
       behind_imports is i d (parts.head_begins S h i n e)
       (behind_head is h i n e (λ same. then_halted (the_members h n) (λ ms o. Reads (closed P most room file is h ms S o))
-      (items.met most _ _ _ S _ _ _ _ _ _ _ (run.member_items tokens most room parts h n) most [] ms a n o j x (parts.member_steps S ms n o all) part mis)))
+      (items.met most _ _ _ _ S _ _ _ _ _ _ _ _ (run.member_items tokens most room parts early h n) most [] ms a n o j x (parts.member_steps S ms n o all) part mis)))
+  file_met x (of_mark_of_head {is} {i} d fit mark) =
+      behind_imports is i d (early.head_begins i x mark)
+      (then_halted (the_head i) (λ h n. the_rest is h n) (part_halted check_head (early_head P most S i) (r.head P most S i)
+      (λ h n e. (let w = early.head_whole i n h x mark (parts.head_laws.sound S i h n e) in misfit_met (head_misfit h.annotations h.modifiers h.kind) h n w.0 w.1))
+      (λ n e. early.head_met i n x mark e)))
+  file_met x (of_mark_of_member {is} {h} {ms} {i} {k = n} {n = o} d fit e fits all all_fit mark) =
+      behind_imports is i d (parts.head_begins S h i n e)
+      (behind_head is h i n e (λ same. then_halted (the_members h n) (λ ms o. Reads (closed P most room file is h ms S o))
+      (items.begun most _ _ _ _ S _ _ _ _ _ _ _ _ (run.member_items tokens most room parts early h n) most [] ms n o x (parts.member_steps S ms n o all) mark)))
 
   -- ---- too deep
 
@@ -337,7 +343,7 @@ module _ (tokens : List Token) (most room : ℕ) (parts : Parts (place_of tokens
   no_found_over (Over n) a j e h = absurd (cc)
 
   head_no_over : (h : ClassHead) (n i : ℕ) → r.head P most S i ≡ Found h n → IsOverChecked (the_head i) → ⊥
-  head_no_over h n i e o = misfit_no_over (head_misfit h.annotations h.modifiers h.kind) h n (subst (λ (q : Answer ClassHead). IsOverChecked (then_checked (Reads q) check_head)) e o)
+  head_no_over h n i e o = misfit_no_over (head_misfit h.annotations h.modifiers h.kind) h n (subst (λ (q : Answer ClassHead). IsOverChecked (checked_part check_head (early_head P most S i) q)) e o)
 
   -- where checked reading passes a limit and the other does not, a member is too deep
   pub file_deep : (a : ClassTree) (j : ℕ) → IsOverChecked (checked_file P most room file S) → plain_file ≡ Found a j → DeepMembers room a.members
@@ -356,7 +362,7 @@ module _ (tokens : List Token) (most room : ℕ) (parts : Parts (place_of tokens
       deep_in : (w : Whole a j) → IsOverChecked (the_members w.head w.at_members) → DeepMembers room a.members
       deep_in w over =
           subst (λ (c : ClassTree). DeepMembers room c.members) (tree_is w.imports w.head w.members w.at_end a j w.closes)
-          (items.deep most _ _ _ S _ _ _ _ _ _ _ (run.member_items tokens most room parts w.head w.at_members) most [] w.at_members w.members w.at_end over (sym (members_are w.at_members) ∙ w.members_read))
+          (items.deep most _ _ _ _ S _ _ _ _ _ _ _ _ (run.member_items tokens most room parts early w.head w.at_members) most [] w.at_members w.members w.at_end over (sym (members_are w.at_members) ∙ w.members_read))
 
       at_members : (w : Whole a j) → ((ms : List MemberTree) × (o : ℕ) × (the_members w.head w.at_members ≡ Reads (Found ms o)) × IsOverChecked (Reads (closed P most room file w.imports w.head ms S o))) ⊎ IsOverChecked (the_members w.head w.at_members) → DeepMembers room a.members
       at_members w (inl v) = absurd (no_close w.imports w.head v.0 v.1 v.3)
@@ -376,7 +382,7 @@ module _ (tokens : List Token) (most room : ℕ) (parts : Parts (place_of tokens
           let z = same_of v.0 w.imports v.1 w.at_head (sym x.0 ∙ w.imports_read) in
           at_head w (then_over (the_head w.at_head) (λ h n. the_rest w.imports h n)
           (subst (λ (i : ℕ). IsOverChecked (the_body w.imports i)) z.1 (subst (λ (is : List ImportTree). IsOverChecked (the_body is v.1)) z.0 v.3)))
-      of w (inr over) = absurd (items.deep most _ _ _ S _ _ _ _ _ _ _ (run.import_items tokens most room parts) most [] 0 w.imports w.at_head over (sym imports_are ∙ w.imports_read))
+      of w (inr over) = absurd (items.deep most _ _ _ _ S _ _ _ _ _ _ _ _ (run.import_items tokens most room parts early) most [] 0 w.imports w.at_head over (sym imports_are ∙ w.imports_read))
 
   -- ---- all fit
 
@@ -388,9 +394,9 @@ module _ (tokens : List Token) (most room : ℕ) (parts : Parts (place_of tokens
           let tree = tree_is w.imports w.head w.members w.at_end a j w.closes in
           let f = subst Fits (sym tree) fits in
           let l = subst (λ (c : ClassTree). DeepMembers room c.members → ⊥) (sym tree) low in
-          let x : the_imports ≡ Reads (Found w.imports w.at_head) = items.all_fit most _ _ _ S _ _ _ _ _ _ _ (run.import_items tokens most room parts) most [] 0 w.imports w.at_head (sym imports_are ∙ w.imports_read) f.imports in
-          let y : the_head w.at_head ≡ Reads (Found w.head w.at_members) = ap (λ (q : Answer ClassHead). then_checked (Reads q) check_head) w.head_read ∙ misfit_fit (head_misfit (w.head).annotations (w.head).modifiers (w.head).kind) w.head w.at_members f.head in
-          let z : the_members w.head w.at_members ≡ Reads (Found w.members w.at_end) = items.all_fit most _ _ _ S _ _ _ _ _ _ _ (run.member_items tokens most room parts w.head w.at_members) most [] w.at_members w.members w.at_end (sym (members_are w.at_members) ∙ w.members_read) (f.members, l) in
+          let x : the_imports ≡ Reads (Found w.imports w.at_head) = items.all_fit most _ _ _ _ S _ _ _ _ _ _ _ _ (run.import_items tokens most room parts early) most [] 0 w.imports w.at_head (sym imports_are ∙ w.imports_read) f.imports in
+          let y : the_head w.at_head ≡ Reads (Found w.head w.at_members) = ap (λ (q : Answer ClassHead). checked_part check_head (early_head P most S w.at_head) q) w.head_read ∙ misfit_fit (head_misfit (w.head).annotations (w.head).modifiers (w.head).kind) w.head w.at_members f.head in
+          let z : the_members w.head w.at_members ≡ Reads (Found w.members w.at_end) = items.all_fit most _ _ _ _ S _ _ _ _ _ _ _ _ (run.member_items tokens most room parts early w.head w.at_members) most [] w.at_members w.members w.at_end (sym (members_are w.at_members) ∙ w.members_read) (f.members, l) in
           checked_is ∙ (ap (λ (q : Checked (List ImportTree)). then_checked q (λ is i. the_body is i)) x
           ∙ (ap (λ (q : Checked ClassHead). then_checked q (λ h n. the_rest w.imports h n)) y
           ∙ (ap (λ (q : Checked (List MemberTree)). then_checked q (λ ms o. Reads (closed P most room file w.imports w.head ms S o))) z ∙ ap Reads w.closes)))

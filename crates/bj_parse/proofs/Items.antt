@@ -1,7 +1,6 @@
 -- Parts that are read one after another, each checked as it stands.
-use Rattle.std.proofs.Common.{◌≡◌, ℕ, zero, suc, ◌+◌, ◌-◌, ◌<◌, ◌≤◌, ◌⊎◌, inl, inr, Bool, true, false, cond, List, [], ◌∷◌, ◌++◌, refl, sym, ap, ◌∙◌, subst, arith, Result}
+use Rattle.std.proofs.Common.{◌≡◌, ℕ, zero, suc, ◌⊎◌, inl, inr, Bool, true, false, cond, List, [], ◌∷◌, ◌++◌, Option, Some, None, refl, sym, ap, ◌∙◌, subst}
 use Rattle.bj_rules.specs.declared.misfit.Misfit.{Misfit}
-use Rattle.bj_grammar.specs.declared.stop.Stop.TheVariants as f
 use Rattle.bj_grammar.specs.declared.terminal.Terminal.{Terminal}
 use Rattle.bj_grammar.specs.Terminal.{terminal}
 use Rattle.bj_grammar.specs.Reader.{Text, Answer, Found, Wrong, Over, Parser, and_then, ◌>>=◌, pure, over, loop}
@@ -9,7 +8,7 @@ use Rattle.bj_grammar.specs.Given.{IsOver}
 use Rattle.bj_grammar.proofs.Laws as laws_of
 use Rattle.bj_grammar.proofs.Laws.{Rel, Laws, Then, Same, Outcome, Steps, done, more}
 use Rattle.bj_stmt.proofs.Small.{Any}
-use Rattle.bj_parse.specs.Checked.{Checked, Reads, Misfits, then_checked, checked_items, IsOverChecked}
+use Rattle.bj_parse.specs.Checked.{Checked, Reads, Misfits, then_checked, unless_early, checked_part, checked_items, IsOverChecked}
 
 -- reading ends with a misfit, or passes a limit
 abbrev pub IsHalted : {A : Type 0} → Checked A → Type 0
@@ -64,10 +63,57 @@ reads_is r q e = cc
 pub reads_over : {A : Type 0} (r : Answer A) → IsOverChecked (Reads r) → IsOver r
 reads_over r h = h
 
+-- ---- a part that is checked, or asked for a misfit where the grammar stops it
+
+unless_found : {A : Type 0} (o : Option Misfit) (k : ℕ) (a : A) (j : ℕ) → unless_early o k ≡ Reads (Found a j) → ⊥
+unless_found None k a j e = absurd (cc)
+unless_found (Some y) k a j e = absurd (cc)
+
+unless_wrong : {A : Type 0} (o : Option Misfit) (n k : ℕ) → unless_early {A = A} o n ≡ Reads (Wrong k) → n ≡ k
+unless_wrong None n k e = cc
+unless_wrong (Some y) n k e = absurd (cc)
+
+unless_told : {A : Type 0} (o : Option Misfit) (k : ℕ) (x : Misfit) → unless_early {A = A} o k ≡ Misfits x → o ≡ Some x
+unless_told None k x e = absurd (cc)
+unless_told (Some y) k x e = let same : y ≡ x = cc in ap Some same
+
+-- what the check of a part says of the part
+pub part_found : {A : Type 0} (check : A → ℕ → Checked A) (early : ℕ → Option Misfit) (r : Answer A) (a : A) (j : ℕ) → checked_part check early r ≡ Reads (Found a j)
+    → (c : A) × (m : ℕ) × (r ≡ Found c m) × (check c m ≡ Reads (Found a j))
+part_found check early (Found c m) a j e = (c, m, refl, e)
+part_found check early (Wrong k) a j e = absurd (unless_found (early k) k a j e)
+part_found check early (Over k) a j e = absurd (cc)
+
+pub part_wrong : {A : Type 0} (check : A → ℕ → Checked A) (early : ℕ → Option Misfit) (r : Answer A) (k : ℕ) → checked_part check early r ≡ Reads (Wrong k)
+    → ((c : A) × (m : ℕ) × (check c m ≡ Reads (Wrong k))) ⊎ (r ≡ Wrong k)
+part_wrong check early (Found c m) k e = inl (c, m, e)
+part_wrong check early (Wrong n) k e = inr (ap Wrong (unless_wrong (early n) n k e))
+part_wrong check early (Over n) k e = absurd (cc)
+
+-- a misfit is that of a part that stands, or is told of one that the grammar stops
+pub part_misfit : {A : Type 0} (check : A → ℕ → Checked A) (early : ℕ → Option Misfit) (r : Answer A) (x : Misfit) → checked_part check early r ≡ Misfits x
+    → ((c : A) × (m : ℕ) × (r ≡ Found c m) × (check c m ≡ Misfits x)) ⊎ ((k : ℕ) × (r ≡ Wrong k) × (early k ≡ Some x))
+part_misfit check early (Found c m) x e = inl (c, m, refl, e)
+part_misfit check early (Wrong k) x e = inr (k, refl, unless_told (early k) k x e)
+part_misfit check early (Over k) x e = absurd (cc)
+
+pub part_over : {A : Type 0} (check : A → ℕ → Checked A) (early : ℕ → Option Misfit) (r : Answer A) → IsOver r → IsHalted (checked_part check early r)
+part_over check early (Found a j) h = absurd h
+part_over check early (Wrong k) h = absurd h
+part_over check early (Over k) h = tt
+
+-- a part halts, if its check does and a misfit is told where the grammar stops it
+pub part_halted : {A : Type 0} (check : A → ℕ → Checked A) (early : ℕ → Option Misfit) (r : Answer A) → ((a : A) (j : ℕ) → r ≡ Found a j → IsHalted (check a j))
+    → ((k : ℕ) → r ≡ Wrong k → (y : Misfit) × (early k ≡ Some y)) → IsHalted (checked_part check early r)
+part_halted check early (Found a j) whole told = whole a j refl
+part_halted {A} check early (Wrong k) whole told = subst (λ (o : Option Misfit). IsHalted (unless_early {A = A} o k)) (sym (told k refl).1) tt
+part_halted check early (Over k) whole told = tt
+
 -- ---- parts of one kind
 
-pub record Items {A : Type 0} (most : ℕ) (test : Terminal → Bool) (item : Parser A) (check : A → ℕ → Checked A) (s : Text) (Q : Rel A) (T : A → Type 0)
-    (Stand : List A → ℕ → Type 0) (Fit : A → Type 0) (FitAll : List A → Type 0) (Mis : A → Misfit → Type 0) (Tall : List A → Type 0) : Type 1 where
+-- `Begun i x` is what is known where the misfit x was told early of a part that begins at i.
+pub record Items {A : Type 0} (most : ℕ) (test : Terminal → Bool) (item : Parser A) (check : A → ℕ → Checked A) (early : ℕ → ℕ → Option Misfit) (s : Text) (Q : Rel A) (T : A → Type 0)
+    (Stand : List A → ℕ → Type 0) (Fit : A → Type 0) (FitAll : List A → Type 0) (Mis : A → Misfit → Type 0) (Tall : List A → Type 0) (Begun : ℕ → Misfit → Type 0) : Type 1 where
   pub laws : Laws most item Q Any T
   pub begins : (a : A) (i j : ℕ) → Q s a i j → test (terminal (s i)) ≡ true
   pub next : (b : List A) (a : A) (i j : ℕ) → Stand b i → Q s a i j → Stand (b ++ a ∷ []) j
@@ -82,21 +128,26 @@ pub record Items {A : Type 0} (most : ℕ) (test : Terminal → Bool) (item : Pa
   pub fit_last : (b : List A) (a : A) → FitAll (b ++ a ∷ []) → Fit a
   pub tall_last : (b : List A) (a : A) → T a → Tall (b ++ a ∷ [])
   pub tall_before : (b : List A) (a : A) → Tall b → Tall (b ++ a ∷ [])
+  pub early_is : (i k : ℕ) (x : Misfit) → item s i ≡ Wrong k → early i k ≡ Some x → Begun i x
+  pub begun_met : (i k : ℕ) (x : Misfit) → Begun i x → item s i ≡ Wrong k → (y : Misfit) × (early i k ≡ Some y)
+  pub begun_whole : (i : ℕ) (a : A) (j : ℕ) (x : Misfit) → Begun i x → Q s a i j → (y : Misfit) × Mis a y
+  pub begun_begins : (i : ℕ) (x : Misfit) → Begun i x → test (terminal (s i)) ≡ true
 
-module _ {A : Type 0} (most : ℕ) (test : Terminal → Bool) (item : Parser A) (check : A → ℕ → Checked A) (s : Text) (Q : Rel A) (T : A → Type 0)
-    (Stand : List A → ℕ → Type 0) (Fit : A → Type 0) (FitAll : List A → Type 0) (Mis : A → Misfit → Type 0) (Tall : List A → Type 0) (u : Items most test item check s Q T Stand Fit FitAll Mis Tall) where
+module _ {A : Type 0} (most : ℕ) (test : Terminal → Bool) (item : Parser A) (check : A → ℕ → Checked A) (early : ℕ → ℕ → Option Misfit) (s : Text) (Q : Rel A) (T : A → Type 0)
+    (Stand : List A → ℕ → Type 0) (Fit : A → Type 0) (FitAll : List A → Type 0) (Mis : A → Misfit → Type 0) (Tall : List A → Type 0) (Begun : ℕ → Misfit → Type 0)
+    (u : Items most test item check early s Q T Stand Fit FitAll Mis Tall Begun) where
   -- one part behind others
   abbrev pub step : List A → Parser (List A)
   step b = item >>= λ c. pure (b ++ c ∷ [])
 
   abbrev run : ℕ → List A → ℕ → Checked (List A)
-  run n b i = checked_items test item check s n b i
+  run n b i = checked_items test item check early s n b i
 
   abbrev plain : ℕ → List A → ℕ → Answer (List A)
   plain n b i = loop n test step b s i
 
   abbrev one : ℕ → Checked A
-  one i = then_checked (Reads (item s i)) check
+  one i = checked_part check (early i) (item s i)
 
   abbrev rest : ℕ → List A → A → ℕ → Checked (List A)
   rest n b a j = run n (b ++ a ∷ []) j
@@ -139,20 +190,19 @@ module _ {A : Type 0} (most : ℕ) (test : Terminal → Bool) (item : Parser A) 
 
   -- what one part comes to
   one_found : (i : ℕ) (a : A) (j : ℕ) → one i ≡ Reads (Found a j) → (item s i ≡ Found a j) × Fit a
-  one_found i a j e = of (then_found (Reads (item s i)) check a j e)
+  one_found i a j e = of (part_found check (early i) (item s i) a j e)
     where
-      of : (c : A) × (m : ℕ) × (Reads (item s i) ≡ Reads (Found c m)) × (check c m ≡ Reads (Found a j)) → (item s i ≡ Found a j) × Fit a
+      of : (c : A) × (m : ℕ) × (item s i ≡ Found c m) × (check c m ≡ Reads (Found a j)) → (item s i ≡ Found a j) × Fit a
       of w =
           let k = u.check_found w.0 a w.1 j w.3 in
-          let is : item s i ≡ Found w.0 w.1 = reads_is _ _ w.2 in
-          (is ∙ (ap (λ (c : A). Found c w.1) (sym k.0) ∙ ap (Found a) (sym k.1)), subst Fit (sym k.0) k.2)
+          (w.2 ∙ (ap (λ (c : A). Found c w.1) (sym k.0) ∙ ap (Found a) (sym k.1)), subst Fit (sym k.0) k.2)
 
   one_wrong : (i k : ℕ) → one i ≡ Reads (Wrong k) → item s i ≡ Wrong k
-  one_wrong i k e = of (then_wrong (Reads (item s i)) check k e)
+  one_wrong i k e = of (part_wrong check (early i) (item s i) k e)
     where
-      of : ((c : A) × (m : ℕ) × (Reads (item s i) ≡ Reads (Found c m)) × (check c m ≡ Reads (Wrong k))) ⊎ (Reads (item s i) ≡ Reads (Wrong k)) → item s i ≡ Wrong k
-      of (inl w) = absurd (u.check_wrong w.0 w.1 k w.3)
-      of (inr e) = reads_is _ _ e
+      of : ((c : A) × (m : ℕ) × (check c m ≡ Reads (Wrong k))) ⊎ (item s i ≡ Wrong k) → item s i ≡ Wrong k
+      of (inl w) = absurd (u.check_wrong w.0 w.1 k w.2)
+      of (inr e) = e
 
   -- ---- found
 
@@ -208,22 +258,27 @@ module _ {A : Type 0} (most : ℕ) (test : Terminal → Bool) (item : Parser A) 
 
   -- ---- a misfit
 
-  pub record Met (x : Misfit) : Type 0 where
-    pub before : List A
-    pub at : ℕ
+  -- a part that stands, and is a misfit
+  pub record Whole (at : ℕ) (x : Misfit) : Type 0 where
     pub part : A
     pub end : ℕ
-    pub stand : Stand before at
-    pub fit : FitAll before
     pub is_part : Q s part at end
     pub mis : Mis part x
 
+  -- behind parts that fit, one that stands is a misfit, or one was told early
+  pub record Met (x : Misfit) : Type 0 where
+    pub before : List A
+    pub at : ℕ
+    pub stand : Stand before at
+    pub fit : FitAll before
+    pub how : Whole at x ⊎ Begun at x
+
   one_misfit : (b : List A) (i : ℕ) (x : Misfit) → Stand b i → FitAll b → one i ≡ Misfits x → Met x
-  one_misfit b i x st fit e = of (then_misfit (Reads (item s i)) check x e)
+  one_misfit b i x st fit e = record { before = b; at = i; stand = st; fit = fit; how = of (part_misfit check (early i) (item s i) x e) }
     where
-      of : ((c : A) × (m : ℕ) × (Reads (item s i) ≡ Reads (Found c m)) × (check c m ≡ Misfits x)) ⊎ (Reads (item s i) ≡ Misfits x) → Met x
-      of (inl w) = record { before = b; at = i; part = w.0; end = w.1; stand = st; fit = fit; is_part = u.laws.sound s i w.0 w.1 (reads_is _ _ w.2); mis = u.check_misfit w.0 w.1 x w.3 }
-      of (inr e) = absurd (cc)
+      of : ((c : A) × (m : ℕ) × (item s i ≡ Found c m) × (check c m ≡ Misfits x)) ⊎ ((k : ℕ) × (item s i ≡ Wrong k) × (early i k ≡ Some x)) → Whole i x ⊎ Begun i x
+      of (inl w) = inl (record { part = w.0; end = w.1; is_part = u.laws.sound s i w.0 w.1 w.2; mis = u.check_misfit w.0 w.1 x w.3 })
+      of (inr w) = inr (u.early_is i w.0 x w.1 w.2)
 
   pub misfit : (n : ℕ) (b : List A) (i : ℕ) (x : Misfit) → Stand b i → FitAll b → run n b i ≡ Misfits x → Met x
   misfit zero b i x st fit e = of (cases_of (test (terminal (s i))))
@@ -290,7 +345,7 @@ module _ {A : Type 0} (most : ℕ) (test : Terminal → Bool) (item : Parser A) 
           let z = same_part v.0 w.0 v.1 w.1 (sym k.0 ∙ w.2) in
           again (b ++ w.0 ∷ []) w.1 (subst (λ (m : ℕ). IsOverChecked (run n (b ++ w.0 ∷ []) m)) z.1 (subst (λ (a : A). IsOverChecked (run n (b ++ a ∷ []) v.1)) z.0 v.3)) w.3
       turn again w (inr o) =
-          grows n (b ++ w.0 ∷ []) w.1 c j w.3 (u.tall_last b w.0 (u.check_over w.0 w.1 (subst (λ (r : Answer A). IsOverChecked (then_checked (Reads r) check)) w.2 o)))
+          grows n (b ++ w.0 ∷ []) w.1 c j w.3 (u.tall_last b w.0 (u.check_over w.0 w.1 (subst (λ (r : Answer A). IsOverChecked (checked_part check (early i) r)) w.2 o)))
 
       of : ((b : List A) (i : ℕ) → IsOverChecked (run n b i) → plain n b i ≡ Found c j → Tall c) → (test (terminal (s i)) ≡ true) ⊎ (test (terminal (s i)) ≡ false) → Tall c
       of again (inl t) = turn again (laws_of.and_then_found (item s i) (λ a j. plain n (b ++ a ∷ []) j) c j (sym (plain_turn n b i t) ∙ e)) (then_over (one i) (rest n b) (subst IsOverChecked (run_turn n b i t) h))
@@ -324,7 +379,7 @@ module _ {A : Type 0} (most : ℕ) (test : Terminal → Bool) (item : Parser A) 
           let w = laws_of.and_then_found (item s i) (λ a j. plain n (b ++ a ∷ []) j) c j (sym (plain_turn n b i t) ∙ e) in
           let fits = u.fit_last b w.0 (back_fits n (b ++ w.0 ∷ []) w.1 c j w.3 h) in
           run_turn n b i t
-          ∙ (ap (λ (r : Answer A). then_checked (then_checked (Reads r) check) (rest n b)) w.2
+          ∙ (ap (λ (r : Answer A). then_checked (checked_part check (early i) r) (rest n b)) w.2
           ∙ (ap (λ (r : Checked A). then_checked r (rest n b)) (u.check_fit w.0 w.1 fits)
           ∙ again (b ++ w.0 ∷ []) w.1 w.3 h))
       of again (inr t) = run_stop (suc n) b i t ∙ ap Reads (sym (plain_stop (suc n) b i t) ∙ e)
@@ -348,22 +403,16 @@ module _ {A : Type 0} (most : ℕ) (test : Terminal → Bool) (item : Parser A) 
           over_is (Over k) h = tt
 
   halted_over : (i : ℕ) → IsOver (item s i) → IsHalted (one i)
-  halted_over i h = then_halted (Reads (item s i)) check (over_halted (item s i) h)
+  halted_over i h = part_over check (early i) (item s i) h
 
-  pub met : (n : ℕ) (b c : List A) (a : A) (i m j : ℕ) (x : Misfit) → Steps Item s b c i m → Q s a m j → Mis a x → IsHalted (run n b i)
-  met zero b c a i m j x (done e at) d mis =
-      over_checked_halted (run zero b i) (run_zero b i (u.begins a i j (subst (λ (k : ℕ). Q s a k j) at d)))
-  met zero b c a i m j x (more {y} {m = k} q r) d mis = over_checked_halted (run zero b i) (run_zero b i (u.begins q.part i q.at q.first))
-  met (suc n) b c a i m j x (done e at) d mis = subst IsHalted (sym (run_turn n b i (u.begins a i j here))) (of (one_stands a i j here))
-    where
-      here : Q s a i j
-      here = subst (λ (k : ℕ). Q s a k j) at d
-
-      of : (item s i ≡ Found a j) ⊎ IsOver (item s i) → IsHalted (then_checked (one i) (rest n b))
-      of (inl is) = then_halted (one i) (rest n b) (subst (λ (r : Answer A). IsHalted (then_checked (Reads r) check)) (sym is) (u.check_met a j x mis))
-      of (inr o) = then_halted (one i) (rest n b) (halted_over i o)
-  met (suc n) b c a i m j x (more {y} {m = k} q r) d mis = subst IsHalted (sym (run_turn n b i (u.begins q.part i q.at q.first)))
-      (of (subst (λ (z : ℕ). IsHalted (run n (b ++ q.part ∷ []) z)) q.rest.at (subst (λ (z : List A). IsHalted (run n z k)) q.rest.tree (met n y c a k m j x r d mis))) (one_stands q.part i q.at q.first))
+  -- where parts stand, and behind them one begins that halts, the whole halts
+  halting : (n : ℕ) (b c : List A) (i m : ℕ) → Steps Item s b c i m → test (terminal (s m)) ≡ true → IsHalted (one m) → IsHalted (run n b i)
+  halting zero b c i m (done e at) t h = over_checked_halted (run zero b i) (run_zero b i (subst (λ (k : ℕ). test (terminal (s k)) ≡ true) at t))
+  halting zero b c i m (more {y} {m = k} q r) t h = over_checked_halted (run zero b i) (run_zero b i (u.begins q.part i q.at q.first))
+  halting (suc n) b c i m (done e at) t h = subst IsHalted (sym (run_turn n b i (subst (λ (k : ℕ). test (terminal (s k)) ≡ true) at t)))
+      (then_halted (one i) (rest n b) (subst (λ (k : ℕ). IsHalted (one k)) at h))
+  halting (suc n) b c i m (more {y} {m = k} q r) t h = subst IsHalted (sym (run_turn n b i (u.begins q.part i q.at q.first)))
+      (of (subst (λ (z : ℕ). IsHalted (run n (b ++ q.part ∷ []) z)) q.rest.at (subst (λ (z : List A). IsHalted (run n z k)) q.rest.tree (halting n y c k m r t h))) (one_stands q.part i q.at q.first))
     where
       checked : IsHalted (rest n b q.part q.at) → (r : Checked A) → check q.part q.at ≡ r → IsHalted (then_checked r (rest n b))
       checked later (Reads (Found z l)) e =
@@ -374,5 +423,16 @@ module _ {A : Type 0} (most : ℕ) (test : Terminal → Bool) (item : Parser A) 
       checked later (Misfits z) e = tt
 
       of : IsHalted (rest n b q.part q.at) → (item s i ≡ Found q.part q.at) ⊎ IsOver (item s i) → IsHalted (then_checked (one i) (rest n b))
-      of later (inl is) = subst (λ (r : Answer A). IsHalted (then_checked (then_checked (Reads r) check) (rest n b))) (sym is) (checked later (check q.part q.at) refl)
+      of later (inl is) = subst (λ (r : Answer A). IsHalted (then_checked (checked_part check (early i) r) (rest n b))) (sym is) (checked later (check q.part q.at) refl)
       of later (inr o) = then_halted (one i) (rest n b) (halted_over i o)
+
+  pub met : (n : ℕ) (b c : List A) (a : A) (i m j : ℕ) (x : Misfit) → Steps Item s b c i m → Q s a m j → Mis a x → IsHalted (run n b i)
+  met n b c a i m j x steps d mis = halting n b c i m steps (u.begins a m j d) (of (one_stands a m j d))
+    where
+      of : (item s m ≡ Found a j) ⊎ IsOver (item s m) → IsHalted (one m)
+      of (inl is) = subst (λ (r : Answer A). IsHalted (checked_part check (early m) r)) (sym is) (u.check_met a j x mis)
+      of (inr o) = halted_over m o
+
+  pub begun : (n : ℕ) (b c : List A) (i m : ℕ) (x : Misfit) → Steps Item s b c i m → Begun m x → IsHalted (run n b i)
+  begun n b c i m x steps h = halting n b c i m steps (u.begun_begins m x h) (part_halted check (early m) (item s m)
+      (λ a j is. (let w = u.begun_whole m a j x h (u.laws.sound s m a j is) in u.check_met a j w.0 w.1)) (λ k is. u.begun_met m k x h is))

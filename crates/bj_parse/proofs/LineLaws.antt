@@ -1,8 +1,7 @@
 -- A line is what one of the two readers finds, and its fault is the later of theirs.
-use Rattle.std.proofs.Common.{◌≡◌, ℕ, zero, suc, ◌+◌, ◌<◌, ◌≤◌, ◌⊎◌, inl, inr, Bool, true, false, Result, Ok, Err, IfOk, List, [], ◌∷◌, length, refl, sym, ap, ◌∙◌, subst, arith, le_refl}
-use Rattle.std.specs.Prelude.{max, min}
+use Rattle.std.proofs.Common.{◌≡◌, ℕ, suc, ◌<◌, ◌≤◌, ◌⊎◌, inl, inr, true, List, length, refl, ap, ◌∙◌, subst, arith, le_refl}
+use Rattle.std.specs.Prelude.{min}
 use Rattle.std.proofs.lemmas.Bool.{cases_lt}
-use Rattle.bj_core.specs.declared.types.Span.{Span}
 use Rattle.bj_lex.specs.declared.token.Token.{Token}
 use Rattle.bj_tree.specs.declared.expr.ExprTree.{ExprTree}
 use Rattle.bj_tree.specs.declared.stmt.StmtTree.{StmtTree}
@@ -12,7 +11,7 @@ use Rattle.bj_tree.specs.Size.{height_of}
 use Rattle.bj_grammar.specs.declared.terminal.Terminal.{Terminal}
 use Rattle.bj_grammar.specs.declared.terminal.Terminal.TheVariants as t
 use Rattle.bj_grammar.specs.Terminal.{same_terminal, among}
-use Rattle.bj_grammar.specs.Reader.{Text, Answer, Found, Over}
+use Rattle.bj_grammar.specs.Reader.{Found}
 use Rattle.bj_grammar.specs.Given.{text_of, place_of, IsOver}
 use Rattle.bj_grammar.proofs.Laws.{Laws, Rel}
 use Rattle.bj_expr.specs.declared.bounds.Bounds.{Bounds}
@@ -25,7 +24,7 @@ use Rattle.bj_stmt.specs.Grammar.{SomeStatements}
 use Rattle.bj_stmt.specs.Reading.{statements_within}
 use Rattle.bj_stmt.proofs.GivenExpressions.{given}
 use Rattle.bj_stmt.proofs.NestedStmts.{some_laws}
-use Rattle.bj_parse.specs.Line.{most_nodes, line_height, line_bounds, IsExpression, AreStatements, IsShallow, IsLine, InGrammar, SameBefore, FirstFault, TooDeep, as_expression, as_statements, IsStuck, HighExpression, HighStatements, IsExpressionOutcome, IsStatementsOutcome}
+use Rattle.bj_parse.specs.Line.{most_nodes, line_height, line_bounds, IsExpression, AreStatements, IsShallow, IsLine, InGrammar, SameBefore, FirstFault, TooDeep, as_expression, as_statements, IsStuck, HighExpression, HighStatements}
 use Rattle.bj_parse.proofs.Whole as whole
 
 end_closes : among closers t.Other ≡ true

@@ -1,5 +1,5 @@
 -- What a reader comes to on all tokens of a text, from its laws.
-use Rattle.std.proofs.Common.{◌≡◌, ℕ, zero, suc, ◌+◌, ◌<◌, ◌≤◌, ◌⊎◌, inl, inr, Bool, true, false, List, [], ◌∷◌, length, refl, sym, ap, ◌∙◌, subst, arith, le_refl}
+use Rattle.std.proofs.Common.{◌≡◌, ℕ, zero, suc, ◌+◌, ◌<◌, ◌≤◌, ◌⊎◌, inl, inr, List, [], ◌∷◌, length, refl, sym, ap, ◌∙◌, subst, arith, le_refl}
 use Rattle.std.proofs.lemmas.Bool.{cases_lt, both_ways}
 use Rattle.bj_lex.specs.declared.token.Token.{Token}
 use Rattle.bj_grammar.specs.declared.terminal.Terminal.{Terminal}
@@ -8,7 +8,6 @@ use Rattle.bj_grammar.specs.Terminal.{terminal}
 use Rattle.bj_grammar.specs.Reader.{Text, Answer, Found, Wrong, Over, Parser}
 use Rattle.bj_grammar.specs.Given.{text_of, IsOver}
 use Rattle.bj_grammar.proofs.Terminals.{is_token}
-use Rattle.bj_grammar.proofs.Laws as laws_of
 use Rattle.bj_grammar.proofs.Laws.{Rel, Laws, Outcome, stop}
 use Rattle.bj_grammar.proofs.TextLemmas.{end_other}
 use Rattle.bj_parse.specs.Line.{SameBefore, IsStuck}

@@ -1,7 +1,6 @@
 -- The reader of files, which checks each part as it stands, as a function on texts.
-use Rattle.std.specs.Prelude.{◌≡◌, ℕ, zero, suc, Bool, true, false, ◌||◌, if◌then◌else◌, nat_lt, List, [], ◌∷◌, ◌++◌, map, Option, Some, None, unwrap_or, option_map, Result, Ok, Err}
+use Rattle.std.specs.Prelude.{◌≡◌, ℕ, zero, suc, Bool, false, if◌then◌else◌, nat_lt, List, [], ◌∷◌, ◌++◌, map, Option, Some, None, Result, Ok, Err}
 use Rattle.bj_core.specs.declared.types.Span.{Span}
-use Rattle.bj_tree.specs.declared.stmt.VariableTree.{VariableTree}
 use Rattle.bj_tree.specs.declared.stmt.StmtTree.{StmtTree}
 use Rattle.bj_tree.specs.declared.class.ImportTree.{ImportTree}
 use Rattle.bj_tree.specs.declared.class.ClassTree.{ClassTree}
@@ -10,7 +9,6 @@ use Rattle.bj_tree.specs.declared.member.MemberTree.TheVariants as m
 use Rattle.bj_tree.specs.Size.{most}
 use Rattle.bj_rules.specs.declared.misfit.Misfit.{Misfit}
 use Rattle.bj_rules.specs.Rules.{import_misfit, head_misfit, member_misfit}
-use Rattle.bj_grammar.specs.declared.stop.Stop.{Stop}
 use Rattle.bj_grammar.specs.declared.stop.Stop.TheVariants as f
 use Rattle.bj_grammar.specs.declared.terminal.Terminal.{Terminal}
 use Rattle.bj_grammar.specs.declared.terminal.Terminal.TheVariants as t
@@ -23,6 +21,7 @@ use Rattle.bj_stmt.specs.Reading.{inside}
 use Rattle.bj_class.specs.declared.head.ClassHead.{ClassHead}
 use Rattle.bj_class.specs.Grammar.{class_tree}
 use Rattle.bj_class.specs.Reading.{import_at, head, member}
+use Rattle.bj_parse.specs.Early.{early_member, early_head}
 use Rattle.bj_parse.specs.declared.halt.Halt.{Halt}
 use Rattle.bj_parse.specs.declared.halt.Halt.TheVariants as halts
 
@@ -42,10 +41,21 @@ abbrev pub unless_misfit : {A : Type 0} → Option Misfit → A → ℕ → Chec
 unless_misfit None a j = Reads (Found a j)
 unless_misfit (Some x) a j = Misfits x
 
+-- the place where the grammar stops a part, unless a misfit stands before it
+abbrev pub unless_early : {A : Type 0} → Option Misfit → ℕ → Checked A
+unless_early None k = Reads (Wrong k)
+unless_early (Some x) k = Misfits x
+
+-- A part is checked where it was read. Where the grammar stops it, it is asked for a misfit that stands before that place.
+abbrev pub checked_part : {A : Type 0} → (A → ℕ → Checked A) → (ℕ → Option Misfit) → Answer A → Checked A
+checked_part check early (Found a j) = check a j
+checked_part check early (Wrong k) = unless_early (early k) k
+checked_part check early (Over k) = Reads (Over k)
+
 -- parts while the next token passes the test, each checked as it stands
-unfoldable pub checked_items : {A : Type 0} → (Terminal → Bool) → Parser A → (A → ℕ → Checked A) → Text → ℕ → List A → ℕ → Checked (List A)
-checked_items test item check s zero b i = if test (terminal (s i)) then Reads (over s i) else Reads (Found b i)
-checked_items test item check s (suc n) b i = if test (terminal (s i)) then then_checked (then_checked (Reads (item s i)) check) (λ a j. checked_items test item check s n (b ++ a ∷ []) j) else Reads (Found b i)
+unfoldable pub checked_items : {A : Type 0} → (Terminal → Bool) → Parser A → (A → ℕ → Checked A) → (ℕ → ℕ → Option Misfit) → Text → ℕ → List A → ℕ → Checked (List A)
+checked_items test item check early s zero b i = if test (terminal (s i)) then Reads (over s i) else Reads (Found b i)
+checked_items test item check early s (suc n) b i = if test (terminal (s i)) then then_checked (checked_part check (early i) (item s i)) (λ a j. checked_items test item check early s n (b ++ a ∷ []) j) else Reads (Found b i)
 
 -- ---- parts that are too deep
 
@@ -72,15 +82,19 @@ check_head h j = unless_misfit (head_misfit h.annotations h.modifiers h.kind) h 
 abbrev pub check_member : ℕ → ClassHead → MemberTree → ℕ → Checked MemberTree
 check_member room h a j = if is_deep_member room a then Reads (Over j) else unless_misfit (member_misfit h.kind h.name.name a) a j
 
+-- an import is judged as a whole alone
+abbrev pub nothing_early : ℕ → ℕ → Option Misfit
+nothing_early i k = None
+
 module _ (place : ℕ → Span) (steps room : ℕ) where
   abbrev pub checked_imports : Text → ℕ → List ImportTree → ℕ → Checked (List ImportTree)
-  checked_imports s = checked_items (is t.Import) (import_at place steps) check_import s
+  checked_imports s = checked_items (is t.Import) (import_at place steps) check_import nothing_early s
 
   abbrev pub checked_head : Text → ℕ → Checked ClassHead
-  checked_head s i = then_checked (Reads (head place steps s i)) check_head
+  checked_head s i = checked_part check_head (early_head place steps s i) (head place steps s i)
 
   abbrev pub checked_members : ClassHead → Text → ℕ → List MemberTree → ℕ → Checked (List MemberTree)
-  checked_members h s = checked_items inside (member place steps room) (check_member room h) s
+  checked_members h s = checked_items inside (member place steps room) (check_member room h) (early_member place steps h.kind s) s
 
   -- the closing brace, behind all members
   abbrev pub closed : List ℕ → List ImportTree → ClassHead → List MemberTree → Parser ClassTree

@@ -1,5 +1,5 @@
 -- What the tokens of a file are, and what reading one promises.
-use Rattle.std.specs.Prelude.{◌≡◌, ℕ, suc, ◌<◌, ◌≤◌, ◌-◌, Bool, true, false, ◌&&◌, ◌||◌, not, if◌then◌else◌, ◌⊎◌, List, [], ◌∷◌, length, Option, Some, None, Result, Ok, Err}
+use Rattle.std.specs.Prelude.{◌≡◌, ℕ, suc, ◌≤◌, Bool, ◌&&◌, ◌||◌, not, if◌then◌else◌, ◌⊎◌, List, [], ◌∷◌, length, Some, None, Result, Ok, Err}
 use Rattle.bj_core.specs.declared.types.Span.{Span}
 use Rattle.bj_core.specs.declared.fault.FaultCode.{FaultCode}
 use Rattle.bj_core.specs.declared.fault.FaultCode.TheVariants as codes
@@ -13,19 +13,18 @@ use Rattle.bj_tree.specs.declared.class.ClassTree.{ClassTree}
 use Rattle.bj_tree.specs.declared.member.MemberTree.{MemberTree}
 use Rattle.bj_rules.specs.declared.misfit.Misfit.{Misfit}
 use Rattle.bj_rules.specs.Rules.{import_misfit, head_misfit, member_misfit}
-use Rattle.bj_grammar.specs.declared.stop.Stop.{Stop}
 use Rattle.bj_grammar.specs.declared.stop.Stop.TheVariants as stops
-use Rattle.bj_grammar.specs.declared.terminal.Terminal.{Terminal}
 use Rattle.bj_grammar.specs.declared.terminal.Terminal.TheVariants as t
 use Rattle.bj_grammar.specs.Terminal.{terminal, same_terminal, among}
-use Rattle.bj_grammar.specs.Reader.{Text, Answer, Found}
+use Rattle.bj_grammar.specs.Reader.{Text}
 use Rattle.bj_grammar.specs.Given.{text_of, place_of}
 use Rattle.bj_expr.specs.Grammar.{leasts}
 use Rattle.bj_class.specs.declared.head.ClassHead.{ClassHead}
 use Rattle.bj_class.specs.Grammar.{Imports, Import, Head, Members, Member, File, modifier_words}
 use Rattle.bj_class.specs.Deep.{DeepMembers}
-use Rattle.bj_parse.specs.Line.{most_nodes, SameBefore, IsStuck, back, class_words, is_left_out, spot}
-use Rattle.bj_parse.specs.Checked.{Checked, Reads, Misfits, IsOverChecked, checked_file}
+use Rattle.bj_parse.specs.Line.{most_nodes, SameBefore, back, class_words, is_left_out, spot}
+use Rattle.bj_parse.specs.Marks.{member_place, head_place, UnfitMark}
+use Rattle.bj_parse.specs.Checked.{Checked, IsOverChecked, checked_file}
 use Rattle.bj_parse.specs.declared.halt.Halt.{Halt}
 use Rattle.bj_parse.specs.declared.halt.Halt.TheVariants as halts
 
@@ -60,7 +59,8 @@ pub record IsClass (file : List ℕ) (tokens : List Token) (a : ClassTree) : Typ
 
 -- ---- the first part that does not fit
 
--- The parts before it stand and fit, and it stands behind them: it is the first that does not fit.
+-- The parts before it stand and fit, and it stands behind them: it is the first that does not fit. It is a part that stands whole, or an annotation
+-- or a modifier of one that goes wrong behind it.
 pub data FirstMisfit (tokens : List Token) (x : Misfit) : Type 0 where
   of_import : {is : List ImportTree} {a : ImportTree} {i j : ℕ} → Imports (place_of tokens) (text_of tokens) is 0 i → ImportsFit is → Import (place_of tokens) (text_of tokens) a i j → import_misfit a ≡ Some x
       → FirstMisfit tokens x
@@ -69,6 +69,11 @@ pub data FirstMisfit (tokens : List Token) (x : Misfit) : Type 0 where
   of_member : {is : List ImportTree} {h : ClassHead} {ms : List MemberTree} {a : MemberTree} {i k n j : ℕ} → Imports (place_of tokens) (text_of tokens) is 0 i → ImportsFit is
       → Head (place_of tokens) (text_of tokens) h i k → HeadFits h → Members (place_of tokens) (text_of tokens) ms k n → MembersFit h.kind h.name.name ms → Member (place_of tokens) (text_of tokens) a n j
       → member_misfit h.kind h.name.name a ≡ Some x → FirstMisfit tokens x
+  of_mark_of_head : {is : List ImportTree} {i : ℕ} → Imports (place_of tokens) (text_of tokens) is 0 i → ImportsFit is
+      → UnfitMark (λ s h i j. Head (place_of tokens) s h i j) head_place (place_of tokens) (text_of tokens) i x → FirstMisfit tokens x
+  of_mark_of_member : {is : List ImportTree} {h : ClassHead} {ms : List MemberTree} {i k n : ℕ} → Imports (place_of tokens) (text_of tokens) is 0 i → ImportsFit is
+      → Head (place_of tokens) (text_of tokens) h i k → HeadFits h → Members (place_of tokens) (text_of tokens) ms k n → MembersFit h.kind h.name.name ms
+      → UnfitMark (λ s a i j. Member (place_of tokens) s a i j) (member_place h.kind) (place_of tokens) (text_of tokens) n x → FirstMisfit tokens x
 
 -- ---- the first fault of the grammar
 
@@ -118,7 +123,7 @@ GivesClass (Ok tree) a = tree ≡ a
 GivesClass (Err refusals.NoMemory) a = Unit {0}
 GivesClass (Err (refusals.Fault fault)) a = ⊥
 
--- The first token that does not fit, with its code, where each part before it is as the profile asks.
+-- The first token that does not fit, with its code, where each part before it, and each annotation and modifier of its own part, is as the profile asks.
 pub record IsFirst (tokens : Tokens) (at : Span) (code : FaultCode) : Type 0 where
   pub index : ℕ
   pub first : FirstFault tokens.class tokens.items index

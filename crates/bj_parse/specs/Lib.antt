@@ -1,4 +1,6 @@
 pub mod Line
+pub mod Marks
+pub mod Early
 pub mod Checked
 pub mod Parts
 pub mod Class

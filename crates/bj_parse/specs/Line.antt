@@ -1,5 +1,5 @@
 -- What the tokens of a console line are, and what reading one promises.
-use Rattle.std.specs.Prelude.{◌≡◌, ℕ, zero, suc, ◌<◌, ◌≤◌, ◌-◌, max, Bool, true, false, ◌&&◌, ◌||◌, if◌then◌else◌, nat_lt, ◌⊎◌, List, [], ◌∷◌, length, map, Result, Ok, Err}
+use Rattle.std.specs.Prelude.{◌≡◌, ℕ, suc, ◌<◌, ◌≤◌, ◌-◌, Bool, ◌&&◌, ◌||◌, if◌then◌else◌, nat_lt, ◌⊎◌, List, [], ◌∷◌, length, map, Result, Ok, Err}
 use Rattle.bj_core.specs.declared.types.Span.{Span}
 use Rattle.bj_core.specs.declared.fault.FaultCode.{FaultCode}
 use Rattle.bj_core.specs.declared.fault.FaultCode.TheVariants as codes
@@ -17,7 +17,7 @@ use Rattle.bj_grammar.specs.declared.stop.Stop.TheVariants as stops
 use Rattle.bj_grammar.specs.declared.terminal.Terminal.{Terminal}
 use Rattle.bj_grammar.specs.declared.terminal.Terminal.TheVariants as t
 use Rattle.bj_grammar.specs.Terminal.{terminal, same_terminal, among}
-use Rattle.bj_grammar.specs.Reader.{Text, Answer, Found, Wrong, Over}
+use Rattle.bj_grammar.specs.Reader.{Text, Answer, Found, Wrong}
 use Rattle.bj_grammar.specs.Given.{text_of, place_of, IsOver}
 use Rattle.bj_expr.specs.declared.bounds.Bounds.{Bounds}
 use Rattle.bj_expr.specs.declared.part.Part.TheVariants as part

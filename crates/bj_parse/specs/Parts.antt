@@ -12,18 +12,19 @@ use Rattle.bj_expr.specs.Reading.{is}
 use Rattle.bj_stmt.specs.Reading.{inside}
 use Rattle.bj_class.specs.declared.head.ClassHead.{ClassHead}
 use Rattle.bj_class.specs.Reading as r
-use Rattle.bj_parse.specs.Checked.{Checked, Reads, Misfits, then_checked, checked_items, check_import, check_head, check_member, closed, checked_body, HaltsAs}
+use Rattle.bj_parse.specs.Checked.{Checked, Reads, then_checked, unless_early, checked_part, checked_items, nothing_early, check_import, check_head, check_member, closed, checked_body, HaltsAs}
+use Rattle.bj_parse.specs.Early.{early_member, early_head}
 use Rattle.bj_parse.specs.Line.{most_nodes}
 use Rattle.bj_parse.specs.declared.halt.Halt.{Halt}
 
 abbrev pub one_import : List Token → Bounds → ℕ → Checked ImportTree
-one_import tokens bounds i = then_checked (Reads (r.import_at (place_of tokens) bounds.most (text_of tokens) i)) check_import
+one_import tokens bounds i = checked_part check_import (nothing_early i) (r.import_at (place_of tokens) bounds.most (text_of tokens) i)
 
 abbrev pub next_import : List Token → Bounds → List ImportTree → ℕ → Checked (List ImportTree)
 next_import tokens bounds b i = then_checked (one_import tokens bounds i) (λ a j. Reads (Found (b ++ a ∷ []) j))
 
 abbrev pub imports_of : List Token → Bounds → ℕ → List ImportTree → ℕ → Checked (List ImportTree)
-imports_of tokens bounds = checked_items (is t.Import) (r.import_at (place_of tokens) bounds.most) check_import (text_of tokens)
+imports_of tokens bounds = checked_items (is t.Import) (r.import_at (place_of tokens) bounds.most) check_import nothing_early (text_of tokens)
 
 -- why a member that was read up to a place is not taken, if it is not
 abbrev pub IsMemberHalt : ClassHead → MemberTree → ℕ → Option Halt → Type 0
@@ -31,16 +32,24 @@ IsMemberHalt h a j None = check_member most_nodes h a j ≡ Reads (Found a j)
 IsMemberHalt h a j (Some halt) = HaltsAs halt (check_member most_nodes h a j)
 
 abbrev pub one_member : List Token → Bounds → ClassHead → ℕ → Checked MemberTree
-one_member tokens bounds h i = then_checked (Reads (r.member (place_of tokens) bounds.most bounds.room (text_of tokens) i)) (check_member bounds.room h)
+one_member tokens bounds h i = checked_part (check_member bounds.room h) (early_member (place_of tokens) bounds.most h.kind (text_of tokens) i) (r.member (place_of tokens) bounds.most bounds.room (text_of tokens) i)
+
+-- why a member from i on is not taken that the grammar stops at k
+abbrev pub IsMemberStop : List Token → Bounds → ClassHead → ℕ → ℕ → Halt → Type 0
+IsMemberStop tokens bounds h i k halt = HaltsAs halt (unless_early {A = MemberTree} (early_member (place_of tokens) bounds.most h.kind (text_of tokens) i k) k)
+
+-- the same of what stands before the members
+abbrev pub IsHeadStop : List Token → Bounds → ℕ → ℕ → Halt → Type 0
+IsHeadStop tokens bounds i k halt = HaltsAs halt (unless_early {A = ClassHead} (early_head (place_of tokens) bounds.most (text_of tokens) i k) k)
 
 abbrev pub next_member : List Token → Bounds → ClassHead → List MemberTree → ℕ → Checked (List MemberTree)
 next_member tokens bounds h b i = then_checked (one_member tokens bounds h i) (λ a j. Reads (Found (b ++ a ∷ []) j))
 
 abbrev pub members_of : List Token → Bounds → ClassHead → ℕ → List MemberTree → ℕ → Checked (List MemberTree)
-members_of tokens bounds h = checked_items inside (r.member (place_of tokens) bounds.most bounds.room) (check_member bounds.room h) (text_of tokens)
+members_of tokens bounds h = checked_items inside (r.member (place_of tokens) bounds.most bounds.room) (check_member bounds.room h) (early_member (place_of tokens) bounds.most h.kind (text_of tokens)) (text_of tokens)
 
 abbrev pub one_head : List Token → Bounds → ℕ → Checked ClassHead
-one_head tokens bounds i = then_checked (Reads (r.head (place_of tokens) bounds.most (text_of tokens) i)) check_head
+one_head tokens bounds i = checked_part check_head (early_head (place_of tokens) bounds.most (text_of tokens) i) (r.head (place_of tokens) bounds.most (text_of tokens) i)
 
 -- the closing brace, behind all members
 abbrev pub closing : List Token → List ℕ → List ImportTree → ClassHead → List MemberTree → ℕ → Checked ClassTree

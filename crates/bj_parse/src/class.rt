@@ -82,7 +82,8 @@ fn class_by(alloc: Global, tokens: &Tokens, symbols: &[Symbol]) -> Result<ClassT
 ///
 /// # Errors
 ///
-/// The first fault:
+/// The first fault. Of a member that goes wrong, or of what stands before the members, an annotation or a modifier is one that stands before that
+/// place, if it fits in nothing that begins with the tokens so far:
 /// - `Syntax` at the first token with which the tokens so far begin no file; the end counts as a token. At the modifier that is
 ///   repeated or does not fit, at the name of a method that has a body where it may have none or none where it must, and at the first
 ///   token of a constructor or an initializer that may not stand there.

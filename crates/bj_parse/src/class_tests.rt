@@ -284,6 +284,124 @@ const FILES: &[(&str, Read)] = &[
         "import static java.lang.Math.*; class A { }",
         Read::Fault(FaultCode::Profile, 1),
     ),
+    (
+        "class A { public public int x = ; }",
+        Read::Fault(FaultCode::Syntax, 18),
+    ),
+    (
+        "class A { public public }",
+        Read::Fault(FaultCode::Syntax, 18),
+    ),
+    (
+        "class A { public public void f() { x = ; } }",
+        Read::Fault(FaultCode::Syntax, 18),
+    ),
+    (
+        "class A { int y; public private int x = ; }",
+        Read::Fault(FaultCode::Syntax, 25),
+    ),
+    (
+        "class A { volatile public public int x }",
+        Read::Fault(FaultCode::Syntax, 27),
+    ),
+    (
+        "class A { volatile public public int x() }",
+        Read::Fault(FaultCode::Syntax, 11),
+    ),
+    (
+        "class A { volatile int x }",
+        Read::Fault(FaultCode::Syntax, 26),
+    ),
+    (
+        "class A { volatile int x( }",
+        Read::Fault(FaultCode::Syntax, 11),
+    ),
+    (
+        "class A { volatile int[ x; }",
+        Read::Fault(FaultCode::Syntax, 25),
+    ),
+    (
+        "class A { synchronized int x = ; }",
+        Read::Fault(FaultCode::Syntax, 11),
+    ),
+    (
+        "class A { synchronized int x[] }",
+        Read::Fault(FaultCode::Syntax, 11),
+    ),
+    (
+        "class A { synchronized volatile }",
+        Read::Fault(FaultCode::Syntax, 33),
+    ),
+    (
+        "class A { static A( int }",
+        Read::Fault(FaultCode::Syntax, 11),
+    ),
+    ("class A { static A }", Read::Fault(FaultCode::Syntax, 20)),
+    ("class A { static A[] }", Read::Fault(FaultCode::Syntax, 22)),
+    (
+        "class A { abstract final void }",
+        Read::Fault(FaultCode::Syntax, 20),
+    ),
+    (
+        "class A { abstract final }",
+        Read::Fault(FaultCode::Syntax, 26),
+    ),
+    (
+        "class A { final volatile int x, ; }",
+        Read::Fault(FaultCode::Syntax, 17),
+    ),
+    (
+        "class A { static { x = ; } }",
+        Read::Fault(FaultCode::Syntax, 24),
+    ),
+    ("class A { static }", Read::Fault(FaultCode::Syntax, 18)),
+    (
+        "class A { static static { } }",
+        Read::Fault(FaultCode::Syntax, 18),
+    ),
+    (
+        "class A { @Foo int x = ; }",
+        Read::Fault(FaultCode::Profile, 11),
+    ),
+    (
+        "class A { @Test @Foo }",
+        Read::Fault(FaultCode::Profile, 17),
+    ),
+    ("class A { @Foo( }", Read::Fault(FaultCode::Syntax, 17)),
+    (
+        "class A { @Foo @Test( }",
+        Read::Fault(FaultCode::Profile, 11),
+    ),
+    (
+        "class A { @Foo(expected = B.class)( }",
+        Read::Fault(FaultCode::Profile, 11),
+    ),
+    (
+        "class A { public public @Foo }",
+        Read::Fault(FaultCode::Syntax, 18),
+    ),
+    ("public public class { }", Read::Fault(FaultCode::Syntax, 8)),
+    ("private class { }", Read::Fault(FaultCode::Syntax, 1)),
+    ("final interface { }", Read::Fault(FaultCode::Syntax, 1)),
+    ("final }", Read::Fault(FaultCode::Syntax, 7)),
+    ("static final }", Read::Fault(FaultCode::Syntax, 1)),
+    ("@Foo public { }", Read::Fault(FaultCode::Profile, 1)),
+    (
+        "interface A { static void f( }",
+        Read::Fault(FaultCode::Profile, 15),
+    ),
+    (
+        "interface A { static int f }",
+        Read::Fault(FaultCode::Syntax, 28),
+    ),
+    (
+        "interface A { private int f }",
+        Read::Fault(FaultCode::Syntax, 15),
+    ),
+    (
+        "import java.lang.; class A { }",
+        Read::Fault(FaultCode::Syntax, 18),
+    ),
     ("@Foo class A { }", Read::Fault(FaultCode::Profile, 1)),
     ("@Test @Foo class A { }", Read::Fault(FaultCode::Profile, 7)),
     (

@@ -35,7 +35,7 @@ fn variable_height(variable: &VariableTree) -> u32
 pub fn greater(a: u32, b: u32) -> u32
     ensures { result ≡ max a b }
 {
-    if a < b { b } else { a }
+    a.max(b)
 }
 
 /// The height of the highest of some variables, or 4294967295 where it is more.

@@ -8,6 +8,7 @@ ghost use Rattle.bj_parse.specs.Parts as parts;
 
 use crate::Halt;
 use crate::imports::imports_from;
+use crate::marks::early_head;
 use crate::members::members_from;
 use bj_class::{ClassHead, head_at};
 use bj_core::{Copies, Name, Span};
@@ -25,6 +26,17 @@ fn let_members_go(_members: MemberTrees) {}
 
 /// Lets what stands before members go, like `let_imports_go`.
 fn let_head_go(_head: ClassHead) {}
+
+/// Why what stands before the members is not taken that the grammar stops: a misfit of its annotations and modifiers, or else the stop.
+fn head_stop(alloc: Global, tokens: &[Symbol], bounds: Bounds, start: usize, stop: usize) -> Halt
+    ensures { parts.IsHeadStop tokens.now bounds start stop result }
+{
+    match early_head(alloc, tokens, bounds, start, stop) {
+        Ok(Some(misfit)) => Halt::Unfit(misfit),
+        Ok(None) => Halt::Stopped(Stop::Syntax(stop)),
+        Err(_) => Halt::Stopped(Stop::Memory),
+    }
+}
 
 /// What stands before the members, unless it is not as the profile asks.
 fn checked_head(
@@ -50,6 +62,7 @@ fn checked_head(
                 None => Ok((head, end)),
             }
         }
+        Err(Stop::Syntax(stop)) => Err(head_stop(alloc, tokens, bounds, at, stop)),
         Err(stop) => Err(Halt::Stopped(stop)),
     }
 }

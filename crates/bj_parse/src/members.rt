@@ -6,6 +6,7 @@ ghost use Rattle.bj_parse.specs.Parts as parts;
 
 use crate::Halt;
 use crate::depth::is_deep_member;
+use crate::marks::early_member;
 use bj_class::{ClassHead, member_at};
 use bj_core::Seq;
 use bj_expr::Bounds;
@@ -30,6 +31,24 @@ fn member_halt(head: &ClassHead, member: &MemberTree, end: usize) -> Option<Halt
     }
 }
 
+/// Why a member is not taken that the grammar stops: a misfit of its annotations and modifiers, or else the stop.
+fn member_stop(
+    alloc: Global,
+    tokens: &[Symbol],
+    bounds: Bounds,
+    head: &ClassHead,
+    start: usize,
+    stop: usize,
+) -> Halt
+    ensures { parts.IsMemberStop tokens.now bounds head.now start stop result }
+{
+    match early_member(alloc, tokens, bounds, head.kind, start, stop) {
+        Ok(Some(misfit)) => Halt::Unfit(misfit),
+        Ok(None) => Halt::Stopped(Stop::Syntax(stop)),
+        Err(_) => Halt::Stopped(Stop::Memory),
+    }
+}
+
 /// A member, unless it is not as the profile asks, or too deep.
 fn checked_member(
     alloc: Global,
@@ -49,6 +68,7 @@ fn checked_member(
             }
             None => Ok((member, end)),
         },
+        Err(Stop::Syntax(stop)) => Err(member_stop(alloc, tokens, bounds, head, at, stop)),
         Err(stop) => Err(Halt::Stopped(stop)),
     }
 }

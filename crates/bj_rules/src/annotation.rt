@@ -15,7 +15,8 @@ fn is_known(name: &[u16]) -> bool
     is_one_of(name, &NAMES)
 }
 
-fn annotation_misfit(annotation: &AnnotationTree) -> Option<Misfit>
+/// The misfit of an annotation: `Profile` at its `@` where it is none of the profile's [JLS 9.7].
+pub fn annotation_misfit(annotation: &AnnotationTree) -> Option<Misfit>
     ensures { result ≡ spec.annotation_misfit annotation.now }
 {
     if is_known(annotation.name.name.as_slice()) {

@@ -16,13 +16,14 @@ mod start;
 mod tests;
 mod words;
 
+pub use annotation::annotation_misfit;
 pub use head::head_misfit;
 pub use import::import_misfit;
 pub use laws::{
     fit_modifiers_have_no_misfit, misfits_are_of_the_first_that_does_not_fit,
     modifiers_without_misfit_fit,
 };
-pub use member::member_misfit;
+pub use member::{field_place, member_misfit, method_place};
 pub use misfit::Misfit;
-pub use modifier::modifiers_misfit;
+pub use modifier::{modifier_misfit, modifiers_misfit};
 pub use place::Place;

@@ -15,7 +15,8 @@ use bj_tree::{
 };
 use sqlite_items::Boxed;
 
-fn field_place(kind: ClassKind) -> Place
+/// Where the modifiers of a field stand [JLS 8.3.1, 9.3].
+pub fn field_place(kind: ClassKind) -> Place
     ensures { result ≡ spec.field_place kind }
 {
     match kind {
@@ -24,7 +25,8 @@ fn field_place(kind: ClassKind) -> Place
     }
 }
 
-fn method_place(kind: ClassKind) -> Place
+/// Where the modifiers of a method stand [JLS 8.4.3, 9.4].
+pub fn method_place(kind: ClassKind) -> Place
     ensures { result ≡ spec.method_place kind }
 {
     match kind {

@@ -136,7 +136,9 @@ fn is_left_out(place: Place, kind: ModifierKind) -> bool
     }
 }
 
-fn modifier_misfit(place: Place, before: &[Modifier], one: Modifier) -> Option<Misfit>
+/// The misfit of one modifier of a place, behind those before it: `Syntax` where it is one of these, where the place does not take it or
+/// one of these excludes it, and `Profile` at the `static` of a method of an interface [JLS 8.1.1, 8.3.1, 8.4.3, 8.8.3, 9.1.1, 9.3, 9.4].
+pub fn modifier_misfit(place: Place, before: &[Modifier], one: Modifier) -> Option<Misfit>
     ensures { result ≡ spec.modifier_misfit place before.now one }
 {
     if !fits(place, before, one.kind) {

@@ -1,8 +1,7 @@
-use Rattle.std.proofs.Common.{◌≤◌, ◌<◌, List, subst, arith}
-use Rattle.bj_tree.specs.declared.expr.ExprTree.{ExprTree}
+use Rattle.std.proofs.Common.{◌<◌, List, subst, arith}
 use Rattle.bj_tree.specs.declared.stmt.StmtTree.{StmtTree}
 use Rattle.bj_parse.specs.declared.outcome.Outcome.{Outcome}
-use Rattle.bj_parse.specs.Line.{IsStatementsOutcome, IsExpressionOutcome}
+use Rattle.bj_parse.specs.Line.{IsStatementsOutcome}
 use Rattle.bj_parse.proofs.LineLaws as laws
 use Rattle.bj_parse.proofs.line.after_stuck.Goals as goal
 
