@@ -56,7 +56,7 @@ module _ (place : ℕ → Span) (most : ℕ) (given : Given place most) (room : 
   unfolding r.maybe_body
   maybe_body_laws = renamed BodyRel Any
       (alt (is t.Semicolon) (tok t.Semicolon refl (λ _. pure_laws most None Any (DeepBody room)))
-      (seq blocks.block_laws (λ b. pure_laws most (Some b) Any (DeepBody room)) (λ s b m a j d last. tt) (λ s b m a j d h. subst (DeepBody room) (sym d.tree) h))
+      (seq blocks.block_laws (λ b. pure_laws most (Some b) Any (DeepBody room)) (λ s b m a j d last. tt) (λ s b m a j d at h. subst (DeepBody room at) (sym d.tree) h))
       (λ s a i j d last. is_kind _ _ d.kind)
       (λ s a i j d last. is_not _ t.LeftBrace t.Semicolon (blocks.block_begins s d.part i d.at d.first).0 sign_facts.0))
       to_body (λ s a i j d. from_body s d) (λ a x e. e)
@@ -74,16 +74,16 @@ module _ (place : ℕ → Span) (most : ℕ) (given : Given place most) (room : 
   unfolding r.method_rest
   method_rest_laws i notes ms result x = seq (formals_laws place most given)
       (λ ps. seq (heads.names_laws t.Throws refl)
-      (λ ts. seq maybe_body_laws (λ b. pure_laws most (method_of place most i notes ms result x ps ts b) Any (DeepMember room)) (λ s b n a j d last. tt) (λ s b n a j d h. subst (DeepMember room) (sym d.tree) h))
-      (λ s ts n a j d last. before_body s d.first) (λ s ts n a j d h. absurd h))
-      (λ s ps n a j d last. tt) (λ s ps n a j d h. absurd h)
+      (λ ts. seq maybe_body_laws (λ b. pure_laws most (method_of place most i notes ms result x ps ts b) Any (DeepMember room)) (λ s b n a j d last. tt) (λ s b n a j d at h. subst (DeepMember room at) (sym d.tree) h))
+      (λ s ts n a j d last. before_body s d.first) (λ s ts n a j d at h. absurd h))
+      (λ s ps n a j d last. tt) (λ s ps n a j d at h. absurd h)
 
   -- ---- behind the type of fields
 
   pub fields_rest_laws : (i : ℕ) (notes : List AnnotationTree) (ms : List Modifier) (ty : TypeTree) → Laws most (r.fields_rest place most room i notes ms ty) (FieldsRest place most i notes ms ty) Any (DeepMember room)
   unfolding r.fields_rest
   fields_rest_laws i notes ms ty = seq (variables_laws place most given room) (λ vs. tok t.Semicolon refl (λ _. pure_laws most (field_of place most i notes ms ty vs) Any (DeepMember room)))
-      (λ s vs n a j d last. d.kind) (λ s vs n a j d h. subst (DeepMember room) (sym d.rest.tree) h)
+      (λ s vs n a j d last. d.kind) (λ s vs n a j d at h. subst (DeepMember room at) (sym d.rest.tree) h)
 
   -- ---- constructors
 
@@ -93,16 +93,16 @@ module _ (place : ℕ → Span) (most : ℕ) (given : Given place most) (room : 
   pub constructor_rest_laws : (i : ℕ) (notes : List AnnotationTree) (ms : List Modifier) (x : NamedPlace) → Laws most (constructor_rest i notes ms x) (ConstructorRest place most i notes ms x) Any (DeepMember room)
   constructor_rest_laws i notes ms x = seq (formals_laws place most given)
       (λ ps. seq (heads.names_laws t.Throws refl)
-      (λ ts. seq blocks.body_laws (λ b. pure_laws most (constructor_of place most i notes ms x ps ts b) Any (DeepMember room)) (λ s b n a j d last. tt) (λ s b n a j d h. subst (DeepMember room) (sym d.tree) h))
-      (λ s ts n a j d last. before_brace _ (blocks.body_begins s d.part n d.at d.first).0) (λ s ts n a j d h. absurd h))
-      (λ s ps n a j d last. tt) (λ s ps n a j d h. absurd h)
+      (λ ts. seq blocks.body_laws (λ b. pure_laws most (constructor_of place most i notes ms x ps ts b) Any (DeepMember room)) (λ s b n a j d last. tt) (λ s b n a j d at h. subst (DeepMember room at) (sym d.tree) h))
+      (λ s ts n a j d last. before_brace _ (blocks.body_begins s d.part n d.at d.first).0) (λ s ts n a j d at h. absurd h))
+      (λ s ps n a j d last. tt) (λ s ps n a j d at h. absurd h)
 
   pub constructor_laws : (i : ℕ) (notes : List AnnotationTree) (ms : List Modifier) → Laws most (r.constructor place most room i notes ms) (Constructed place most i notes ms) Any (DeepMember room)
   unfolding r.constructor
-  constructor_laws i notes ms = seq (name_laws place most Any Never) (λ x. constructor_rest_laws i notes ms x) (λ s x n a j d last. tt) (λ s x n a j d h. absurd h)
+  constructor_laws i notes ms = seq (name_laws place most Any Never) (λ x. constructor_rest_laws i notes ms x) (λ s x n a j d last. tt) (λ s x n a j d at h. absurd h)
 
   -- ---- initializers
 
   pub block_member_laws : (i : ℕ) (f : Bool) → Laws most (r.block_member place most room i f) (Initializer place most i f) Any (DeepMember room)
   unfolding r.block_member
-  block_member_laws i f = seq blocks.block_laws (λ b. pure_laws most (initializer_of place most i f b) Any (DeepMember room)) (λ s b n a j d last. tt) (λ s b n a j d h. subst (DeepMember room) (sym d.tree) h)
+  block_member_laws i f = seq blocks.block_laws (λ b. pure_laws most (initializer_of place most i f b) Any (DeepMember room)) (λ s b n a j d last. tt) (λ s b n a j d at h. subst (DeepMember room at) (sym d.tree) h)

@@ -1,5 +1,5 @@
 -- The tokens past the end, and one turn of the loop over the names of an import, as the code makes it.
-use Rattle.std.proofs.Common.{List, ◌∷◌, [], ◌++◌, ◌≡◌, ℕ, zero, suc, ◌+◌, ◌-◌, ◌<◌, ◌≤◌, Bool, true, false, cond, ◌&&◌, rules, length, sym, ap, ◌∙◌, subst, arith}
+use Rattle.std.proofs.Common.{List, ◌∷◌, [], ◌++◌, ◌≡◌, ℕ, zero, suc, ◌+◌, ◌-◌, ◌<◌, ◌≤◌, Bool, true, false, cond, ◌&&◌, rules, length, refl, sym, ap, ◌∙◌, subst, arith}
 use Rattle.std.specs.Str.{bytes_eq}
 use Rattle.bj_core.specs.declared.types.Span.{Span}
 use Rattle.bj_lex.specs.declared.token.Token.{Token}
@@ -8,8 +8,8 @@ use Rattle.bj_grammar.specs.Terminal.{terminal, same_terminal}
 use Rattle.bj_grammar.specs.declared.terminal.Terminal.{Terminal}
 use Rattle.bj_grammar.specs.declared.terminal.Terminal.TheVariants as t
 use Rattle.bj_grammar.specs.declared.stop.Stop.{Stop}
-use Rattle.bj_grammar.specs.Reader.{Text, Parser, Answer, Found, Wrong, and_then, ◌>>=◌, over, pure, sign, choose}
-use Rattle.bj_grammar.specs.Given.{IsOver, Fails, text_of}
+use Rattle.bj_grammar.specs.Reader.{Text, Parser, Answer, Found, Wrong, and_then, ◌>>=◌, over, nowhere, pure, sign, choose}
+use Rattle.bj_grammar.specs.Given.{IsDeepAt, Fails, text_of}
 use Rattle.bj_grammar.proofs.LoopLemmas.{fails_then, fails_same}
 use Rattle.bj_grammar.proofs.TextLemmas.{end_other, not_at_end}
 use Rattle.bj_expr.specs.Reading.{is}
@@ -44,23 +44,23 @@ module _ (place : ℕ → Span) (bound : ℕ) where
 
   names_stop : (n : ℕ) (b : List NamedPlace) (s : Text) (i : ℕ) → same_terminal (terminal (s i)) t.Dot ≡ false → more_names place bound n b s i ≡ Found (b, false) i
   unfolding more_names
-  names_stop zero b s i no_dot = ap (λ (x : Bool). cond x (over s i) (Found (b, false) i)) no_dot
+  names_stop zero b s i no_dot = ap (λ (x : Bool). cond x (over (λ _. nowhere) s i) (Found (b, false) i)) no_dot
   names_stop (suc n) b s i no_dot = ap (λ (x : Bool). cond x (sign t.Dot (behind_dot n b) s i) (Found (b, false) i)) no_dot
 
   names_turn : (n : ℕ) (b : List NamedPlace) (s : Text) (i : ℕ) → same_terminal (terminal (s i)) t.Dot ≡ true → more_names place bound (suc n) b s i ≡ behind_dot n b s (suc i)
   unfolding more_names
   names_turn n b s i dot = ap (λ (x : Bool). cond x (sign t.Dot (behind_dot n b) s i) (Found (b, false) i)) dot ∙ ap (λ (x : Bool). cond x (behind_dot n b s (suc i)) (Wrong i)) dot
 
-  names_over : (b : List NamedPlace) (s : Text) (i : ℕ) → same_terminal (terminal (s i)) t.Dot ≡ true → IsOver (more_names place bound 0 b s i)
+  names_over : (b : List NamedPlace) (s : Text) (i : ℕ) → same_terminal (terminal (s i)) t.Dot ≡ true → IsDeepAt nowhere (more_names place bound 0 b s i)
   unfolding more_names
-  names_over b s i dot = subst (λ (x : Bool). IsOver {A = List NamedPlace × Bool} (cond x (over s i) (Found (b, false) i))) (sym dot) tt
+  names_over b s i dot = subst (λ (x : Bool). IsDeepAt {A = List NamedPlace × Bool} nowhere (cond x (over (λ _. nowhere) s i) (Found (b, false) i))) (sym dot) refl
 
   module _ (s : Text) (before : Answer (List NamedPlace × Bool)) (most turn : ℕ) (b : List NamedPlace) (at : ℕ) (so_far : before ≡ more_names place bound (most - turn) b s at) where
     pub names_end : same_terminal (terminal (s at)) t.Dot ≡ false → before ≡ Found (b, false) at
     names_end no_dot = so_far ∙ names_stop (most - turn) b s at no_dot
 
-    pub names_past : most ≤ turn → same_terminal (terminal (s at)) t.Dot ≡ true → IsOver before
-    names_past above dot = subst IsOver (sym (none_left (λ n. more_names place bound n b s at) most turn above so_far)) (names_over b s at dot)
+    pub names_past : most ≤ turn → same_terminal (terminal (s at)) t.Dot ≡ true → IsDeepAt nowhere before
+    names_past above dot = subst (IsDeepAt nowhere) (sym (none_left (λ n. more_names place bound n b s at) most turn above so_far)) (names_over b s at dot)
 
     module _ (below : turn < most) (dot : same_terminal (terminal (s at)) t.Dot ≡ true) (next : ℕ) (after : next ≡ suc at) where
       names_after : before ≡ behind_dot (most - (turn + 1)) b s next

@@ -45,8 +45,8 @@ AfterImports a x = same_terminal x t.Import ≡ false
 module _ (place : ℕ → Span) (most : ℕ) (given : Given place most) (room : ℕ) (blocks : Blocks place most room) (heads : Heads place most)
     (imports_laws : Laws most (r.imports place most) (λ s a i j. Imports place s a i j) AfterImports Never)
     (head_laws : Laws most (r.head place most) (λ s a i j. Head place s a i j) Any Never) where
-  abbrev pub DeepFile : ClassTree → Type 0
-  DeepFile a = DeepMembers room a.members
+  abbrev pub DeepFile : Span → ClassTree → Type 0
+  DeepFile at a = DeepMembers room at a.members
 
   abbrev Ended : List ℕ → List ImportTree → ClassHead → List MemberTree → ℕ → Rel ClassTree
   Ended file is h ms o = Word t.RightBrace (λ _. Same (class_tree file is h ms (place o)))
@@ -76,7 +76,7 @@ module _ (place : ℕ → Span) (most : ℕ) (given : Given place most) (room : 
   file_laws file = renamed (FileRel file) Any
       (seq imports_laws (λ is. seq head_laws (λ h. seq (members_laws place most given room blocks heads)
       (λ ms. start {D = Ended file is h ms} (λ o. tok t.RightBrace refl (λ _. pure_laws most (class_tree file is h ms (place o)) Any DeepFile)))
-      (λ s ms m a j d last. d.kind) (λ s ms m a j d deep. subst DeepFile (sym d.rest.tree) deep))
-      (λ s h m a j d last. tt) (λ s h m a j d never. absurd never))
-      (λ s is m a j d last. head_no_import place s d.first) (λ s is m a j d never. absurd never))
+      (λ s ms m a j d last. d.kind) (λ s ms m a j d at deep. subst (DeepFile at) (sym d.rest.tree) deep))
+      (λ s h m a j d last. tt) (λ s h m a j d at never. absurd never))
+      (λ s is m a j d last. head_no_import place s d.first) (λ s is m a j d at never. absurd never))
       (λ s a i j d. to_file file s a i j d) (λ s a i j d. from_file file s d) (λ a x e. e)

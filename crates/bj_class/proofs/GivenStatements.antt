@@ -1,5 +1,5 @@
 -- The readers of blocks keep what the laws of members ask of them.
-use Rattle.std.proofs.Common.{◌≡◌, ℕ, ◌<◌}
+use Rattle.std.proofs.Common.{◌≡◌, ℕ}
 use Rattle.bj_core.specs.declared.types.Span.{Span}
 use Rattle.bj_tree.specs.declared.stmt.StmtTree.{StmtTree}
 use Rattle.bj_grammar.specs.declared.terminal.Terminal.TheVariants as t

@@ -73,7 +73,7 @@ module _ (place : ℕ → Span) (most : ℕ) where
   pub maybe_super_laws : Laws most (r.maybe_super place most) (λ s a i j. MaybeSuper place s a i j) (NotNext t.Extends) Never
   unfolding r.maybe_super
   maybe_super_laws = renamed (λ s a i j. MaybeSuper place s a i j) (NotNext t.Extends)
-      (alt (is t.Extends) (tok t.Extends refl (λ _. seq (any_name place most) (λ x. pure_laws most (Some x) (NotNext t.Extends) Never) (λ s x m b j d last. tt) (λ s x m b j d h. h)))
+      (alt (is t.Extends) (tok t.Extends refl (λ _. seq (any_name place most) (λ x. pure_laws most (Some x) (NotNext t.Extends) Never) (λ s x m b j d last. tt) (λ s x m b j d at h. h)))
       (pure_laws most None (NotNext t.Extends) Never)
       (λ s a i j d last. is_kind _ _ d.kind)
       (λ s a i j d last. same_after (λ x. same_terminal x t.Extends ≡ false) s None a i j d last))
@@ -107,16 +107,16 @@ module _ (place : ℕ → Span) (most : ℕ) where
   unfolding r.class_rest
   class_rest_laws i notes ms = tok t.Class refl (λ _. seq (any_name place most)
       (λ v. seq maybe_super_laws (λ x. seq (maybe_names_laws place most t.Implements refl) (λ ns. tok t.LeftBrace refl (λ _. pure_laws most (class_of i notes ms v x ns) Any Never))
-      (λ s ns m b j d last. brace_after t.Implements brace_facts.1 ns _ d.kind) (λ s ns m b j d h. h))
-      (λ s x m b j d last. names_no_extends s d.first d.rest.kind) (λ s x m b j d h. h))
-      (λ s v m b j d last. tt) (λ s v m b j d h. h))
+      (λ s ns m b j d last. brace_after t.Implements brace_facts.1 ns _ d.kind) (λ s ns m b j d at h. h))
+      (λ s x m b j d last. names_no_extends s d.first d.rest.kind) (λ s x m b j d at h. h))
+      (λ s v m b j d last. tt) (λ s v m b j d at h. h))
 
   interface_rest_laws : (i : ℕ) (notes : List AnnotationTree) (ms : List Modifier) → Laws most (r.interface_rest place most i notes ms) (InterfaceRest i notes ms) Any Never
   unfolding r.interface_rest
   interface_rest_laws i notes ms = tok t.Interface refl (λ _. seq (any_name place most)
       (λ v. seq (maybe_names_laws place most t.Extends refl) (λ ns. tok t.LeftBrace refl (λ _. pure_laws most (interface_of i notes ms v ns) Any Never))
-      (λ s ns m b j d last. brace_after t.Extends brace_facts.2 ns _ d.kind) (λ s ns m b j d h. h))
-      (λ s v m b j d last. tt) (λ s v m b j d h. h))
+      (λ s ns m b j d last. brace_after t.Extends brace_facts.2 ns _ d.kind) (λ s ns m b j d at h. h))
+      (λ s v m b j d last. tt) (λ s v m b j d at h. h))
 
   abbrev Rest : ℕ → List AnnotationTree → List Modifier → Rel ClassHead
   Rest i notes ms = Either (InterfaceRest i notes ms) (ClassRest i notes ms)
@@ -198,8 +198,8 @@ module _ (place : ℕ → Span) (most : ℕ) where
   unfolding r.head
   head_laws = renamed (λ s a i j. Head place s a i j) Any
       (start {D = HeadBy} (λ i. seq (annotations_laws place most) (λ notes. seq (modifiers_laws place most) (λ ms. rest_laws i notes ms)
-      (λ s ms m b j d last. rest_no_modifier i notes ms s b m j d) (λ s ms m b j d h. h))
-      (λ s notes m b j d last. modifiers_first place most (λ x. among annotation_words x ≡ false) s no_note d.first (rest_no_note i notes d.part s b d.at j d.rest)) (λ s notes m b j d h. h)))
+      (λ s ms m b j d last. rest_no_modifier i notes ms s b m j d) (λ s ms m b j d at h. h))
+      (λ s notes m b j d last. modifiers_first place most (λ x. among annotation_words x ≡ false) s no_note d.first (rest_no_note i notes d.part s b d.at j d.rest)) (λ s notes m b j d at h. h)))
       to_head (λ s a i j d. from_head s d) (λ a x e. e)
 
   -- ---- where a head begins and ends

@@ -12,5 +12,6 @@ pub mod MemberAhead
 pub mod MemberLaws
 pub mod MemberListLaws
 pub mod FileLaws
+pub mod LowMembers
 pub mod GivenStatements
 pub mod ClassCode

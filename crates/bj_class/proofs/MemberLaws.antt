@@ -22,7 +22,7 @@ use Rattle.bj_stmt.specs.Reading as rs
 use Rattle.bj_stmt.specs.Reading.{inside}
 use Rattle.bj_stmt.proofs.Expressions.{Given, Never}
 use Rattle.bj_stmt.proofs.Leftmost.{is_not}
-use Rattle.bj_stmt.proofs.Ahead.{goes_on, stop_then, stop_word, type_past}
+use Rattle.bj_stmt.proofs.Ahead.{goes_on, stop_then, forth, stop_word, type_past}
 use Rattle.bj_stmt.proofs.Small.{Any, name_laws, variables_word}
 use Rattle.bj_class.specs.Grammar as g
 use Rattle.bj_class.specs.Grammar.{modifier, modifier_words, Member}
@@ -52,7 +52,7 @@ module _ (place : ℕ → Span) (most : ℕ) (given : Given place most) (room : 
 
   named_method_laws : (i : ℕ) (notes : List AnnotationTree) (ms : List Modifier) (result : Option TypeTree)
       → Laws most (rs.name_at place most >>= λ x. r.method_rest place most room i notes ms result x) (NamedMethod place most i notes ms result) Any (DeepMember room)
-  named_method_laws i notes ms result = seq (name_laws place most Any Never) (λ x. method_rest_laws place most given room blocks heads i notes ms result x) (λ s x n a j d last. tt) (λ s x n a j d h. absurd h)
+  named_method_laws i notes ms result = seq (name_laws place most Any Never) (λ x. method_rest_laws place most given room blocks heads i notes ms result x) (λ s x n a j d last. tt) (λ s x n a j d at h. absurd h)
 
   void_laws : (i : ℕ) (notes : List AnnotationTree) (ms : List Modifier) → Laws most (r.void_method place most room i notes ms) (VoidMethod place most i notes ms) Any (DeepMember room)
   unfolding r.void_method
@@ -82,14 +82,14 @@ module _ (place : ℕ → Span) (most : ℕ) (given : Given place most) (room : 
       let method = named_method_laws i notes ms (Some ty) in
       let fields = fields_rest_laws place most given room blocks heads i notes ms ty in
       ahead_laws most is_called _ _ (NamedMethod place most i notes ms (Some ty)) (FieldsRest place most i notes ms ty) Any (DeepMember room) method fields
-      (λ s u n same. two_seen t.Word t.LeftParen (rs.name_at place most >>= λ x. r.method_rest place most room i notes ms (Some ty) x) (r.fields_rest place most room i notes ms ty) s u n (method.onward s n) (fields.onward s n)
-      (λ w. (named_past place most s n w (λ x. r.method_rest place most room i notes ms (Some ty) x) (λ x k. (method_rest_laws place most given room blocks heads i notes ms (Some ty) x).onward s k), fields_past s n w))
+      (λ s u n same. two_seen t.Word t.LeftParen (rs.name_at place most >>= λ x. r.method_rest place most room i notes ms (Some ty) x) (r.fields_rest place most room i notes ms ty) s u n (forth method s n) (forth fields s n)
+      (λ w. (named_past place most s n w (λ x. r.method_rest place most room i notes ms (Some ty) x) (λ x k. forth (method_rest_laws place most given room blocks heads i notes ms (Some ty) x) s k), fields_past s n w))
       same)
       (λ s a n j d last. method_called i notes ms (Some ty) s a n j d)
       (λ s a n j d last. variables_not_called place s d.first d.rest.kind)
     where
       semicolon_onward : (vs : List VariableTree) (s : Text) (k : ℕ) → k ≤ stop (sign t.Semicolon (pure (field_of place most i notes ms ty vs)) s k)
-      semicolon_onward vs s k = (tok {Q = λ _. Same (field_of place most i notes ms ty vs)} {E = Any} {T = DeepMember room} t.Semicolon refl (λ _. pure_laws most (field_of place most i notes ms ty vs) Any (DeepMember room))).onward s k
+      semicolon_onward vs s k = forth (tok {Q = λ _. Same (field_of place most i notes ms ty vs)} {E = Any} {T = DeepMember room} t.Semicolon refl (λ _. pure_laws most (field_of place most i notes ms ty vs) Any (DeepMember room))) s k
 
       fields_past : (s : Text) (n : ℕ) → same_terminal (terminal (s n)) t.Word ≡ true → suc n ≤ stop ((rs.variables place most room >>= λ vs. sign t.Semicolon (pure (field_of place most i notes ms ty vs))) s n)
       fields_past s n w =
@@ -105,7 +105,7 @@ module _ (place : ℕ → Span) (most : ℕ) (given : Given place most) (room : 
   unfolding r.typed
   typed_laws i notes ms = seq given.type_laws (λ ty. method_or_fields_laws i notes ms ty)
       (λ s ty n a j d last. is_not _ t.Word t.LeftBracket (method_or_fields_word i notes ms ty s a n j d) sign_facts.0)
-      (λ s ty n a j d h. absurd h)
+      (λ s ty n a j d at h. absurd h)
 
   -- ---- a constructor, or a member with a type
 
@@ -114,13 +114,13 @@ module _ (place : ℕ → Span) (most : ℕ) (given : Given place most) (room : 
 
   constructed_past : (i : ℕ) (notes : List AnnotationTree) (ms : List Modifier) (s : Text) (n : ℕ) → same_terminal (terminal (s n)) t.Word ≡ true → suc n ≤ stop (r.constructor place most room i notes ms s n)
   unfolding r.constructor
-  constructed_past i notes ms s n w = named_past place most s n w (constructor_rest place most given room blocks heads i notes ms) (λ x k. (constructor_rest_laws place most given room blocks heads i notes ms x).onward s k)
+  constructed_past i notes ms s n w = named_past place most s n w (constructor_rest place most given room blocks heads i notes ms) (λ x k. forth (constructor_rest_laws place most given room blocks heads i notes ms x) s k)
 
   typed_past : (i : ℕ) (notes : List AnnotationTree) (ms : List Modifier) (s : Text) (n : ℕ) → same_terminal (terminal (s n)) t.Word ≡ true → suc n ≤ stop (r.typed place most room i notes ms s n)
   unfolding r.typed
   typed_past i notes ms s n w =
       let h = type_past place most given s n w in
-      let k = stop_then (type_at place most s n) (λ ty q. ahead is_called (rs.name_at place most >>= λ x. r.method_rest place most room i notes ms (Some ty) x) (r.fields_rest place most room i notes ms ty) s q) (λ ty q. (method_or_fields_laws i notes ms ty).onward s q) in
+      let k = stop_then (type_at place most s n) (λ ty q. ahead is_called (rs.name_at place most >>= λ x. r.method_rest place most room i notes ms (Some ty) x) (r.fields_rest place most room i notes ms ty) s q) (λ ty q. forth (method_or_fields_laws i notes ms ty) s q) in
       omega arith
 
   constructed_or_typed_laws : (i : ℕ) (notes : List AnnotationTree) (ms : List Modifier)
@@ -129,7 +129,7 @@ module _ (place : ℕ → Span) (most : ℕ) (given : Given place most) (room : 
       let constructed = constructor_laws place most given room blocks heads i notes ms in
       let typed = typed_laws i notes ms in
       ahead_laws most is_called _ _ (Constructed place most i notes ms) (Typed place most i notes ms) Any (DeepMember room) constructed typed
-      (λ s u n same. two_seen t.Word t.LeftParen (r.constructor place most room i notes ms) (r.typed place most room i notes ms) s u n (constructed.onward s n) (typed.onward s n)
+      (λ s u n same. two_seen t.Word t.LeftParen (r.constructor place most room i notes ms) (r.typed place most room i notes ms) s u n (forth constructed s n) (forth typed s n)
       (λ w. (constructed_past i notes ms s n w, typed_past i notes ms s n w)) same)
       (λ s a n j d last. constructed_called i notes ms s a n j d)
       (λ s a n j d last. type_not_called place s d.first (method_or_fields_word i notes ms d.part s a d.at j d.rest))
@@ -151,8 +151,8 @@ module _ (place : ℕ → Span) (most : ℕ) (given : Given place most) (room : 
   declared_laws : (i : ℕ) → Laws most (r.declared place most room i) (Declared place most i) Any (DeepMember room)
   unfolding r.declared
   declared_laws i = seq heads.annotations_laws (λ notes. seq heads.modifiers_laws (λ ms. core_laws i notes ms)
-      (λ s ms n a j d last. core_no_modifier (terminal (s n)) (core_first i notes ms s a n j d)) (λ s ms n a j d h. absurd h))
-      (λ s notes n a j d last. modifiers_no_note place s d.first (core_first i notes d.part s a d.at j d.rest)) (λ s notes n a j d h. absurd h)
+      (λ s ms n a j d last. core_no_modifier (terminal (s n)) (core_first i notes ms s a n j d)) (λ s ms n a j d at h. absurd h))
+      (λ s notes n a j d last. modifiers_no_note place s d.first (core_first i notes d.part s a d.at j d.rest)) (λ s notes n a j d at h. absurd h)
 
   -- ---- a static initializer, or a declaration
 
@@ -208,14 +208,14 @@ module _ (place : ℕ → Span) (most : ℕ) (given : Given place most) (room : 
   static_block_is i s a n j d = and_both _ _ (is_kind _ _ d.kind) (is_kind _ _ (initializer_brace i true s a (suc n) j d.rest))
 
   static_block_past : (i : ℕ) (s : Text) (n : ℕ) → same_terminal (terminal (s n)) t.Static ≡ true → suc n ≤ stop (sign t.Static (r.block_member place most room i true) s n)
-  static_block_past i s n k = stop_word t.Static (λ _. r.block_member place most room i true) s n (suc n) k ((block_member_laws place most given room blocks heads i true).onward s (suc n))
+  static_block_past i s n k = stop_word t.Static (λ _. r.block_member place most room i true) s n (suc n) k (forth (block_member_laws place most given room blocks heads i true) s (suc n))
 
   static_or_declared_laws : (i : ℕ) → Laws most (ahead is_static_block (sign t.Static (r.block_member place most room i true)) (r.declared place most room i)) (StaticOrDeclared place most i) Any (DeepMember room)
   static_or_declared_laws i =
       let block = static_block_laws i in
       let declared = declared_laws i in
       ahead_laws most is_static_block _ _ (StaticBlock place most i) (Declared place most i) Any (DeepMember room) block declared
-      (λ s u n same. two_seen t.Static t.LeftBrace (sign t.Static (r.block_member place most room i true)) (r.declared place most room i) s u n (block.onward s n) (declared.onward s n)
+      (λ s u n same. two_seen t.Static t.LeftBrace (sign t.Static (r.block_member place most room i true)) (r.declared place most room i) s u n (forth block s n) (forth declared s n)
       (λ w. (static_block_past i s n w, declared_past i s n w)) same)
       (λ s a n j d last. static_block_is i s a n j d)
       (λ s a n j d last. declared_no_block place s d.first d.rest.first (core_first i d.part d.rest.part s a d.rest.at j d.rest.rest))

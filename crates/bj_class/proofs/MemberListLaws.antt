@@ -22,14 +22,14 @@ use Rattle.bj_class.proofs.MemberLaws.{member_laws, member_inside}
 
 -- ---- depth in a list
 
-pub deep_before : (room : ℕ) (ms : List MemberTree) (c : MemberTree) → DeepMembers room ms → DeepMembers room (ms ++ c ∷ [])
-deep_before room [] c h = absurd h
-deep_before room (a ∷ ms) c (inl h) = inl h
-deep_before room (a ∷ ms) c (inr h) = inr (deep_before room ms c h)
+pub deep_before : (room : ℕ) (at : Span) (ms : List MemberTree) (c : MemberTree) → DeepMembers room at ms → DeepMembers room at (ms ++ c ∷ [])
+deep_before room at [] c h = absurd h
+deep_before room at (a ∷ ms) c (inl h) = inl h
+deep_before room at (a ∷ ms) c (inr h) = inr (deep_before room at ms c h)
 
-pub deep_end : (room : ℕ) (ms : List MemberTree) (c : MemberTree) → DeepMember room c → DeepMembers room (ms ++ c ∷ [])
-deep_end room [] c h = inl h
-deep_end room (a ∷ ms) c h = inr (deep_end room ms c h)
+pub deep_end : (room : ℕ) (at : Span) (ms : List MemberTree) (c : MemberTree) → DeepMember room at c → DeepMembers room at (ms ++ c ∷ [])
+deep_end room at [] c h = inl h
+deep_end room at (a ∷ ms) c h = inr (deep_end room at ms c h)
 
 brace_inside : inside t.RightBrace ≡ false
 unfolding same_terminal
@@ -102,11 +102,11 @@ module _ (place : ℕ → Span) (most : ℕ) (given : Given place most) (room : 
   members_laws = renamed MembersRel (Before t.RightBrace)
       (rep {Q = MemberStep} {E = Any} inside (pure_laws most [] Any (DeepMembers room))
       (λ b. seq (member_laws place most given room blocks heads) (λ c. pure_laws most (b ++ c ∷ []) Any (DeepMembers room)) (λ s c m a j d last. tt)
-      (λ s c m a j d h. subst (DeepMembers room) (sym d.tree) (deep_end room b c h)))
+      (λ s c m a j d at h. subst (DeepMembers room at) (sym d.tree) (deep_end room at b c h)))
       (λ s x a i j d. member_inside place most given room blocks heads s d.first)
       (λ s x a i j d. let h = member_forward s d.first in let e = d.rest.at in omega arith)
       (λ a x e. tt)
-      (λ s x a i j d h. subst (DeepMembers room) (sym d.rest.tree) (deep_before room x d.part h)))
+      (λ s x a i j d at h. subst (DeepMembers room at) (sym d.rest.tree) (deep_before room at x d.part h)))
       to_members (λ s a i j d. from_members s d) (λ a x e. (tt, ap inside e ∙ brace_inside))
 
   -- members, from none on

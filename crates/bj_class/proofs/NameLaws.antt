@@ -6,7 +6,7 @@ use Rattle.bj_tree.specs.declared.class.ImportTree.{ImportTree}
 use Rattle.bj_grammar.specs.declared.terminal.Terminal.{Terminal}
 use Rattle.bj_grammar.specs.declared.terminal.Terminal.TheVariants as t
 use Rattle.bj_grammar.specs.Terminal.{terminal, same_terminal}
-use Rattle.bj_grammar.specs.Reader.{Text, ◌>>=◌, pure, sign}
+use Rattle.bj_grammar.specs.Reader.{Text, ◌>>=◌, pure, nowhere, sign}
 use Rattle.bj_grammar.proofs.Terminals.{is_token}
 use Rattle.bj_grammar.proofs.Laws.{Rel, Shape, Laws, Then, Same, Word, Either, Steps, done, same_laws, then_laws, then_shape, word_shape, either_shape, pure_laws, over_laws, steps_end, steps_fold, is_kind, seq, alt, tok, start, renamed, rep}
 use Rattle.bj_expr.specs.Reading.{is}
@@ -104,12 +104,12 @@ module _ (place : ℕ → Span) (most : ℕ) where
   unfolding r.names r.next_name
   names_laws = renamed NamesRel (NotNext t.Comma)
       (rep {Q = Comma} {E = Any} (is t.Comma)
-      (seq any_name (λ x. pure_laws most (x ∷ []) Any Never) (λ s x m b j d last. tt) (λ s x m b j d h. h))
-      (λ b. tok t.Comma refl (λ _. seq any_name (λ x. pure_laws most (b ++ x ∷ []) Any Never) (λ s x m c j d last. tt) (λ s x m c j d h. h)))
+      (seq any_name (λ x. pure_laws most (x ∷ []) Any Never) (λ s x m b j d last. tt) (λ s x m b j d at h. h))
+      (λ b. tok t.Comma refl (λ _. seq any_name (λ x. pure_laws most (b ++ x ∷ []) Any Never) (λ s x m c j d last. tt) (λ s x m c j d at h. h)))
       (λ s x a i j d. is_kind _ _ d.kind)
       (λ s x a i j d. let e = d.rest.first.rest.at in let f = d.rest.rest.at in omega arith)
       (λ a x o. tt)
-      (λ s x a i j d h. h))
+      (λ s x a i j d at h. h))
       to_names (λ s a i j d. from_names s d) (λ a x e. (tt, e))
 
   from_maybe : (keyword : Terminal) (s : Text) {a : List NamedPlace} {i j : ℕ} → MaybeNames keyword place s a i j → Either (Word keyword (λ _. NamesRel)) (Same []) s a i j
@@ -181,7 +181,7 @@ module _ (place : ℕ → Span) (most : ℕ) where
   more_names_laws : (k : ℕ) → k ≤ most → (b : List NamedPlace) → Laws k (r.more_names place most k b) (MoreRel b) (NotNext t.Dot) Never
   unfolding r.more_names
   more_names_laws zero le b = renamed (MoreRel b) (NotNext t.Dot)
-      (alt {P = DotRel b} (is t.Dot) (over_laws zero (DotRel b) (NotNext t.Dot) Never (dot_shape b) (λ s a i j d. let h = (dot_shape b).forward s a i j d in inr (omega arith)))
+      (alt {P = DotRel b} (is t.Dot) (over_laws zero (λ _. nowhere) (DotRel b) (NotNext t.Dot) Never (dot_shape b) (λ s a i j d. inr (omega arith)))
       (pure_laws zero (b, false) (NotNext t.Dot) Never)
       (λ s a i j d last. is_kind _ _ d.kind) (λ s a i j d last. no_dot b s a i j d last))
       (λ s a i j d. to_more b s a i j d) (λ s a i j d. from_more s d) (λ a x e. e)
@@ -189,10 +189,10 @@ module _ (place : ℕ → Span) (most : ℕ) where
       (alt {P = DotRel b} (is t.Dot)
       (tok t.Dot refl (λ _. alt (is t.Times) (tok t.Times refl (λ _. pure_laws (suc k) (b, true) (NotNext t.Dot) Never))
       (then_laws (suc k) k (name_at place most) NameRel Any Never (λ x. r.more_names place most k (b ++ x ∷ [])) (λ x. MoreRel (b ++ x ∷ [])) (NotNext t.Dot) Never
-      (same_laws most (suc k) (name_at place most) NameRel Any Never NameRel Any Never any_name (λ s a i j d. d) (λ s a i j d. d) (λ a x h. h) (λ a h. h) le)
+      (same_laws most (suc k) (name_at place most) NameRel Any Never NameRel Any Never any_name (λ s a i j d. d) (λ s a i j d. d) (λ a x h. h) (λ a at h. h) le)
       (λ x. more_names_laws k (omega arith) (b ++ x ∷ []))
       (λ s x m a j d last. tt)
-      (λ s x m a j d h. h)
+      (λ s x m a j d at h. h)
       (λ s x i m j d h. let e = d.rest.at in omega arith))
       (λ s a i j d last. is_kind _ _ d.kind)
       (λ s a i j d last. is_not _ _ t.Times d.first.kind sign_facts.0)))
@@ -226,7 +226,7 @@ module _ (place : ℕ → Span) (most : ℕ) where
   pub imported_laws : Laws most (r.imported place most) (λ s a i j. Imported place s a i j) (NotNext t.Dot) Never
   unfolding r.imported
   imported_laws = renamed (λ s a i j. Imported place s a i j) (NotNext t.Dot)
-      (seq any_name (λ x. more_names_laws most (le_refl most) (x ∷ [])) (λ s x m a j d last. tt) (λ s x m a j d h. h))
+      (seq any_name (λ x. more_names_laws most (le_refl most) (x ∷ [])) (λ s x m a j d last. tt) (λ s x m a j d at h. h))
       (λ s a i j d. to_imported s i (g.first_name d.first.kind (ap (λ (x : NamedPlace). x ∷ []) d.first.rest.tree) d.first.rest.at) d.rest)
       (λ s a i j d. from_imported s d.names (ended s a d.at j d.all)) (λ a x e. e)
 
@@ -259,8 +259,8 @@ module _ (place : ℕ → Span) (most : ℕ) where
   behind_import : (i : ℕ) → Laws most (r.maybe_static >>= λ f. r.imported place most >>= λ d. sign t.Semicolon (pure (import_tree i f d)))
       (Then (λ s a i j. MaybeStatic s a i j) (λ f. Then (λ s a i j. Imported place s a i j) (λ d. Word t.Semicolon (λ _. Same (import_tree i f d))))) Any Never
   behind_import i = seq (static_laws most) (λ f. seq imported_laws (λ d. tok t.Semicolon refl (λ _. pure_laws most (import_tree i f d) Any Never))
-      (λ s d m b j c last. is_not _ _ t.Dot c.kind sign_facts.1) (λ s d m b j c h. h))
-      (λ s f m b j c last. is_not _ _ t.Static (names_word t.Dot s c.first.names) sign_facts.2) (λ s f m b j c h. h)
+      (λ s d m b j c last. is_not _ _ t.Dot c.kind sign_facts.1) (λ s d m b j c at h. h))
+      (λ s f m b j c last. is_not _ _ t.Static (names_word t.Dot s c.first.names) sign_facts.2) (λ s f m b j c at h. h)
 
   pub import_laws : Laws most (r.import_at place most) (λ s a i j. Import place s a i j) Any Never
   unfolding r.import_at
@@ -296,11 +296,11 @@ module _ (place : ℕ → Span) (most : ℕ) where
   imports_laws = renamed ImportsRel (NotNext t.Import)
       (rep {Q = NextImport} {E = Any} (is t.Import)
       (pure_laws most [] Any Never)
-      (λ b. seq import_laws (λ c. pure_laws most (b ++ c ∷ []) Any Never) (λ s x m c j d last. tt) (λ s x m c j d h. h))
+      (λ b. seq import_laws (λ c. pure_laws most (b ++ c ∷ []) Any Never) (λ s x m c j d last. tt) (λ s x m c j d at h. h))
       (λ s x a i j d. is_kind _ _ (import_begins s d.part i d.at d.first).0)
       (λ s x a i j d. let h = (import_begins s d.part i d.at d.first).1 in let e = d.rest.at in omega arith)
       (λ a x o. tt)
-      (λ s x a i j d h. h))
+      (λ s x a i j d at h. h))
       to_imports (λ s a i j d. from_imports s d) (λ a x e. (tt, e))
 
   -- imports, from none on

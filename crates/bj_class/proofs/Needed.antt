@@ -1,5 +1,5 @@
 -- What the laws of members ask of the readers of blocks, and of what stands before a member.
-use Rattle.std.proofs.Common.{◌≡◌, ℕ, ◌<◌, Bool, true, false, List, [], ◌∷◌}
+use Rattle.std.proofs.Common.{◌≡◌, ℕ, suc, ◌<◌, true, false, List, [], ◌∷◌}
 use Rattle.bj_core.specs.declared.types.Span.{Span}
 use Rattle.bj_tree.specs.declared.stmt.StmtTree.{StmtTree}
 use Rattle.bj_grammar.specs.declared.terminal.Terminal.{Terminal}
@@ -10,7 +10,7 @@ use Rattle.bj_grammar.proofs.Terminals.{is_token}
 use Rattle.bj_grammar.proofs.Laws.{Laws}
 use Rattle.bj_stmt.specs.declared.part.StmtPart.TheVariants as p
 use Rattle.bj_stmt.specs.Grammar.{Block, ConstructorBody}
-use Rattle.bj_stmt.specs.Heights.{stmt_height}
+use Rattle.bj_stmt.specs.Nodes.{StmtHasNode}
 use Rattle.bj_stmt.specs.Reading.{nested}
 use Rattle.bj_stmt.proofs.Expressions.{Never}
 use Rattle.bj_stmt.proofs.Small.{Any}
@@ -18,8 +18,8 @@ use Rattle.bj_class.specs.Grammar.{Annotations, ModifierList, MaybeNames, modifi
 use Rattle.bj_class.specs.Reading.{annotations, modifiers, maybe_names}
 
 pub record Blocks (place : ℕ → Span) (most room : ℕ) : Type 1 where
-  pub block_laws : Laws most (nested place most room p.Block) (λ s a i j. Block place s a i j) Any (λ a. room < stmt_height a)
-  pub body_laws : Laws most (nested place most room p.ConstructorBody) (λ s a i j. ConstructorBody place s a i j) Any (λ a. room < stmt_height a)
+  pub block_laws : Laws most (nested place most room p.Block) (λ s a i j. Block place s a i j) Any (StmtHasNode (suc room))
+  pub body_laws : Laws most (nested place most room p.ConstructorBody) (λ s a i j. ConstructorBody place s a i j) Any (StmtHasNode (suc room))
   pub block_begins : (s : Text) (a : StmtTree) (i j : ℕ) → Block place s a i j → (terminal (s i) ≡ t.LeftBrace) × (i < j)
   pub body_begins : (s : Text) (a : StmtTree) (i j : ℕ) → ConstructorBody place s a i j → (terminal (s i) ≡ t.LeftBrace) × (i < j)
 

@@ -37,14 +37,14 @@ module _ (place : ℕ → Span) (most : ℕ) where
   expecting_laws : Laws most (r.expecting place most) ClassIn Any Never
   unfolding r.expecting
   expecting_laws = tok t.LeftParen refl (λ _. spelled_laws expected (tok t.Assign refl (λ _. seq (any_name place most)
-      (λ c. tok t.Dot refl (λ _. tok t.Class refl (λ _. tok t.RightParen refl (λ _. pure_laws most c Any Never)))) (λ s c m b j d last. tt) (λ s c m b j d h. h))))
+      (λ c. tok t.Dot refl (λ _. tok t.Class refl (λ _. tok t.RightParen refl (λ _. pure_laws most c Any Never)))) (λ s c m b j d last. tt) (λ s c m b j d at h. h))))
 
   abbrev MaybeClass : Rel (Option NamedPlace)
   MaybeClass = Either (Then ClassIn (λ c. Same (Some c))) (Same None)
 
   maybe_expecting_laws : Laws most (r.maybe_expecting place most) MaybeClass (NotNext t.LeftParen) Never
   unfolding r.maybe_expecting
-  maybe_expecting_laws = alt (is t.LeftParen) (seq expecting_laws (λ c. pure_laws most (Some c) (NotNext t.LeftParen) Never) (λ s c m b j d last. tt) (λ s c m b j d h. h))
+  maybe_expecting_laws = alt (is t.LeftParen) (seq expecting_laws (λ c. pure_laws most (Some c) (NotNext t.LeftParen) Never) (λ s c m b j d last. tt) (λ s c m b j d at h. h))
       (pure_laws most None (NotNext t.LeftParen) Never)
       (λ s a i j d last. is_kind _ _ d.first.kind)
       (λ s a i j d last. same_after (λ x. same_terminal x t.LeftParen ≡ false) s None a i j d last)
@@ -126,8 +126,8 @@ module _ (place : ℕ → Span) (most : ℕ) where
   behind_at : (i : ℕ) → Laws most (name_at place most >>= λ x. r.maybe_expecting place most >>= λ c. pure (note i x c))
       (Then (NameRel place most) (λ x. Then MaybeClass (λ c. Same (note i x c)))) (NotNext t.LeftParen) Never
   behind_at i = seq (any_name place most) (λ x. seq maybe_expecting_laws (λ c. pure_laws most (note i x c) (NotNext t.LeftParen) Never)
-      (λ s c m b j d last. same_after (λ y. same_terminal y t.LeftParen ≡ false) s (note i x c) b m j d last) (λ s c m b j d h. h))
-      (λ s x m b j d last. tt) (λ s x m b j d h. h)
+      (λ s c m b j d last. same_after (λ y. same_terminal y t.LeftParen ≡ false) s (note i x c) b m j d last) (λ s c m b j d at h. h))
+      (λ s x m b j d last. tt) (λ s x m b j d at h. h)
 
   pub annotation_laws : Laws most (r.annotation place most) (λ s a i j. Annotation place s a i j) (NotNext t.LeftParen) Never
   unfolding r.annotation
@@ -164,11 +164,11 @@ module _ (place : ℕ → Span) (most : ℕ) where
       (rep {Q = NextNote} {E = NotNext t.LeftParen} (is t.At)
       (pure_laws most [] (NotNext t.LeftParen) Never)
       (λ b. seq annotation_laws (λ c. pure_laws most (b ++ c ∷ []) (NotNext t.LeftParen) Never)
-      (λ s x m c j d last. same_after (λ y. same_terminal y t.LeftParen ≡ false) s (b ++ x ∷ []) c m j d last) (λ s x m c j d h. h))
+      (λ s x m c j d last. same_after (λ y. same_terminal y t.LeftParen ≡ false) s (b ++ x ∷ []) c m j d last) (λ s x m c j d at h. h))
       (λ s x a i j d. is_kind _ _ (annotation_begins s d.part i d.at d.first).0)
       (λ s x a i j d. let h = (annotation_begins s d.part i d.at d.first).1 in let e = d.rest.at in omega arith)
       (λ a x o. is_not x t.At t.LeftParen (kind_is x t.At o) note_facts)
-      (λ s x a i j d h. h))
+      (λ s x a i j d at h. h))
       to_notes (λ s a i j d. from_notes s d)
       (λ a x e. let w = or_split (same_terminal x t.At) _ e in ((or_split (same_terminal x t.LeftParen) _ w.1).0, w.0))
 
@@ -218,7 +218,7 @@ module _ (place : ℕ → Span) (most : ℕ) where
       (λ s x a i j d. d.kind)
       (λ s x a i j d. let e = d.rest.at in omega arith)
       (λ a x o. tt)
-      (λ s x a i j d h. h))
+      (λ s x a i j d at h. h))
       to_modifiers (λ s a i j d. from_modifiers s d) (λ a x e. (tt, e))
 
   -- what holds of each modifier and of what stands behind modifiers holds of the first token

@@ -68,15 +68,15 @@ module _ (place : ℕ → Span) (most : ℕ) (given : Given place most) where
   named_laws : (i : ℕ) (f : Bool) (ty : TypeTree) → Laws most (rs.name_at place most >>= λ x. dims place most >>= λ d. pure (parameter_of i f ty x d)) (Called place most (NamedRest i f ty)) AfterType Never
   named_laws i f ty = seq (name_laws place most Any Never)
       (λ x. seq given.dims_laws (λ d. pure_laws most (parameter_of i f ty x d) AfterType Never)
-      (λ s d m b j e last. same_after (λ y. same_terminal y t.LeftBracket ≡ false) s (parameter_of i f ty x d) b m j e last) (λ s d m b j e h. h))
-      (λ s x m b j e last. tt) (λ s x m b j e h. absurd h)
+      (λ s d m b j e last. same_after (λ y. same_terminal y t.LeftBracket ≡ false) s (parameter_of i f ty x d) b m j e last) (λ s d m b j e at h. h))
+      (λ s x m b j e last. tt) (λ s x m b j e at h. absurd h)
 
   pub parameter_laws : Laws most (r.parameter place most) ParameterRel AfterType Never
   unfolding r.parameter
   parameter_laws = renamed ParameterRel AfterType
       (start {D = ParameterBy} (λ i. seq (final_laws most) (λ f. seq given.type_laws (λ ty. named_laws i f ty)
-      (λ s ty m b j d last. is_not _ t.Word t.LeftBracket d.first.kind sign_facts.0) (λ s ty m b j d h. absurd h))
-      (λ s f m b j d last. type_no_final place s d.first) (λ s f m b j d h. absurd h)))
+      (λ s ty m b j d last. is_not _ t.Word t.LeftBracket d.first.kind sign_facts.0) (λ s ty m b j d at h. absurd h))
+      (λ s f m b j d last. type_no_final place s d.first) (λ s f m b j d at h. absurd h)))
       to_parameter (λ s a i j d. from_parameter s d) (λ a x e. e)
 
   -- ---- parameters with commas between them
@@ -123,13 +123,13 @@ module _ (place : ℕ → Span) (most : ℕ) (given : Given place most) where
   unfolding r.parameters r.next_parameter
   parameters_laws = renamed ParametersRel AfterParameters
       (rep {Q = CommaStep} {E = AfterType} (is t.Comma)
-      (seq parameter_laws (λ x. pure_laws most (x ∷ []) AfterType Never) (λ s x m b j d last. same_after (λ y. same_terminal y t.LeftBracket ≡ false) s (x ∷ []) b m j d last) (λ s x m b j d h. absurd h))
+      (seq parameter_laws (λ x. pure_laws most (x ∷ []) AfterType Never) (λ s x m b j d last. same_after (λ y. same_terminal y t.LeftBracket ≡ false) s (x ∷ []) b m j d last) (λ s x m b j d at h. absurd h))
       (λ b. tok t.Comma refl (λ _. seq parameter_laws (λ x. pure_laws most (b ++ x ∷ []) AfterType Never)
-      (λ s x m c j d last. same_after (λ y. same_terminal y t.LeftBracket ≡ false) s (b ++ x ∷ []) c m j d last) (λ s x m c j d h. absurd h)))
+      (λ s x m c j d last. same_after (λ y. same_terminal y t.LeftBracket ≡ false) s (b ++ x ∷ []) c m j d last) (λ s x m c j d at h. absurd h)))
       (λ s x a i j d. is_kind _ _ d.kind)
       (λ s x a i j d. let h = parameter_laws.shape.forward s d.rest.part (suc i) d.rest.at d.rest.first in let e = d.rest.rest.at in omega arith)
       (λ a x o. is_not x t.Comma t.LeftBracket (kind_is x t.Comma o) sign_facts.1)
-      (λ s x a i j d h. absurd h))
+      (λ s x a i j d at h. absurd h))
       to_parameters (λ s a i j d. from_parameters s d) (λ a x e. e)
 
   -- ---- in parentheses
@@ -154,7 +154,7 @@ module _ (place : ℕ → Span) (most : ℕ) (given : Given place most) where
       (tok t.LeftParen refl (λ _. alt (is t.RightParen) (tok t.RightParen refl (λ _. pure_laws most [] Any Never))
       (seq parameters_laws (λ ps. tok t.RightParen refl (λ _. pure_laws most ps Any Never))
       (λ s ps m b j d last. (is_not _ t.RightParen t.LeftBracket d.kind sign_facts.2, is_not _ t.RightParen t.Comma d.kind sign_facts.3))
-      (λ s ps m b j d h. absurd h))
+      (λ s ps m b j d at h. absurd h))
       (λ s a i j d last. is_kind _ _ d.kind)
       (λ s a i j d last. parameters_no_paren s d.first)))
       to_formals (λ s a i j d. from_formals s d) (λ a x e. e)

@@ -17,7 +17,7 @@ use Rattle.bj_tree.specs.declared.member.MemberTree.TheVariants as m
 use Rattle.bj_grammar.specs.declared.terminal.Terminal.{Terminal}
 use Rattle.bj_grammar.specs.declared.terminal.Terminal.TheVariants as t
 use Rattle.bj_grammar.specs.Terminal.{terminal, same_terminal, among}
-use Rattle.bj_grammar.specs.Reader.{Text, Found, Wrong, Parser, ◌>>=◌, pure, over, here, operator, sign, ahead, choose, loop}
+use Rattle.bj_grammar.specs.Reader.{Text, Found, Wrong, Parser, ◌>>=◌, pure, over, nowhere, here, operator, sign, ahead, choose, loop}
 use Rattle.bj_expr.specs.Reading.{is, dims, type_at}
 use Rattle.bj_stmt.specs.declared.part.StmtPart.{StmtPart}
 use Rattle.bj_stmt.specs.declared.part.StmtPart.TheVariants as p
@@ -64,7 +64,7 @@ module _ (place : ℕ → Span) (most : ℕ) where
 
   -- the names behind some, each after a dot, and whether `.*` ends them
   unfoldable pub more_names : ℕ → List NamedPlace → Parser (List NamedPlace × Bool)
-  more_names zero b = choose (is t.Dot) over (pure (b, false))
+  more_names zero b = choose (is t.Dot) (over (λ _. nowhere)) (pure (b, false))
   more_names (suc n) b = choose (is t.Dot) (sign t.Dot (choose (is t.Times) (sign t.Times (pure (b, true))) (name_at place most >>= λ x. more_names n (b ++ x ∷ [])))) (pure (b, false))
 
   unfoldable pub imported : Parser (List NamedPlace × Bool)

@@ -5,7 +5,7 @@ ghost use Rattle.bj_class.specs.Reading as spec;
 use crate::tokens::spelled;
 use bj_core::Seq;
 use bj_expr::Bounds;
-use bj_grammar::{Stop, Symbol, Terminal, place, sees, word};
+use bj_grammar::{Stop, Symbol, Terminal, out_of_turns, place, sees, word};
 use bj_stmt::name_at;
 use bj_tree::{AnnotationTree, AnnotationTrees, NamedPlace};
 use std::alloc::Global;
@@ -106,7 +106,7 @@ fn more_annotations(
         (found, at) = next_annotation(alloc, tokens, bounds, found, at)?;
     }
     if sees(tokens, at, Terminal::At) {
-        return Err(Stop::Deep(at));
+        return Err(out_of_turns());
     }
     Ok((found, at))
 }

@@ -4,7 +4,7 @@ ghost use Rattle.bj_class.specs.Reading as spec;
 
 use crate::names::{maybe_static, one_name};
 use bj_expr::Bounds;
-use bj_grammar::{Stop, Symbol, Terminal, place, sees, word};
+use bj_grammar::{Stop, Symbol, Terminal, out_of_turns, place, sees, word};
 use bj_stmt::name_at;
 use bj_tree::{ImportTree, NamedPlaces};
 use std::alloc::Global;
@@ -33,7 +33,7 @@ fn more_imported(
         at = next;
     }
     if sees(tokens, at, Terminal::Dot) {
-        return Err(Stop::Deep(at));
+        return Err(out_of_turns());
     }
     Ok(((found, false), at))
 }

@@ -88,7 +88,7 @@ fn block_member(
 /// # Errors
 ///
 /// - `Syntax` at the first token with which no member that begins so goes on.
-/// - `Deep` where there is no room for a node, and where a list is longer than `bounds.most`.
+/// - `Deep` at a node that there is no room for, and where a list is longer than `bounds.most`.
 /// - `Memory` where there is no room for it.
 #[tactic(auto, unfolding(crate::specs::Reading::member))]
 pub fn member_at(

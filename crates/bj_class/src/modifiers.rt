@@ -7,7 +7,7 @@ ghost use Rattle.bj_class.specs.Reading as spec;
 use crate::tokens::modifies;
 use bj_core::Seq;
 use bj_expr::Bounds;
-use bj_grammar::{Stop, Symbol, Terminal, place, taken};
+use bj_grammar::{Stop, Symbol, Terminal, out_of_turns, place, taken};
 use bj_tree::{Modifier, ModifierKind, Modifiers};
 use std::alloc::Global;
 
@@ -82,7 +82,7 @@ fn more_modifiers(
         (found, at) = next_modifier(tokens, bounds, found, at)?;
     }
     if modifies(tokens, at) {
-        return Err(Stop::Deep(at));
+        return Err(out_of_turns());
     }
     Ok((found, at))
 }

@@ -7,7 +7,7 @@ ghost use Rattle.bj_class.specs.Reading as spec;
 
 use bj_core::{NoMemory, Seq};
 use bj_expr::Bounds;
-use bj_grammar::{Stop, Symbol, Terminal, sees, word};
+use bj_grammar::{Stop, Symbol, Terminal, out_of_turns, sees, word};
 use bj_stmt::name_at;
 use bj_tree::{NamedPlace, NamedPlaces};
 use std::alloc::Global;
@@ -66,7 +66,7 @@ fn more_names(
         (found, at) = next_name(alloc, tokens, bounds, found, at)?;
     }
     if sees(tokens, at, Terminal::Comma) {
-        return Err(Stop::Deep(at));
+        return Err(out_of_turns());
     }
     Ok((found, at))
 }

@@ -5,7 +5,7 @@ ghost use Rattle.bj_class.specs.Reading as spec;
 
 use bj_core::Seq;
 use bj_expr::{Bounds, dims, type_at};
-use bj_grammar::{Stop, Symbol, Terminal, place, sees, word};
+use bj_grammar::{Stop, Symbol, Terminal, out_of_turns, place, sees, word};
 use bj_stmt::{maybe_final, name_at};
 use bj_tree::{ParameterTree, ParameterTrees};
 use std::alloc::Global;
@@ -68,7 +68,7 @@ fn more_parameters(
         (found, at) = next_parameter(alloc, tokens, bounds, found, at)?;
     }
     if sees(tokens, at, Terminal::Comma) {
-        return Err(Stop::Deep(at));
+        return Err(out_of_turns());
     }
     Ok((found, at))
 }

@@ -1,5 +1,5 @@
 -- The readers of arguments.
-use Rattle.std.proofs.Common.{◌≡◌, ℕ, suc, ◌≤◌, inl, inr, false, refl, sym, subst, arith, List, [], ◌∷◌, ◌++◌}
+use Rattle.std.proofs.Common.{◌≡◌, ℕ, suc, inl, inr, false, refl, sym, subst, arith, List, [], ◌∷◌, ◌++◌}
 use Rattle.bj_core.specs.declared.types.Span.{Span}
 use Rattle.bj_tree.specs.declared.expr.ExprTree.{ExprTree}
 use Rattle.bj_expr.specs.declared.bounds.Bounds.{Bounds}
@@ -17,7 +17,7 @@ use Rattle.bj_grammar.proofs.Laws.{Rel, Laws, Then, Same, Word, Either, Steps, d
 use Rattle.bj_expr.proofs.Facts.{other, stops_expression, begins_unary}
 use Rattle.bj_expr.proofs.Begins.{exprs_begins}
 use Rattle.bj_expr.proofs.Tall as tall
-use Rattle.bj_expr.proofs.Tall.{list_height}
+use Rattle.bj_expr.proofs.Tall.{TallList}
 use Rattle.bj_expr.proofs.LawLemmas.{same_after, Tall, After, PartRel, AfterPart, is_not, closer, is_closer}
 
 not_paren : same_terminal t.RightParen t.Comma ≡ false
@@ -27,10 +27,6 @@ not_paren = refl
 begins_right_paren : among begins_unary t.RightParen ≡ false
 unfolding same_terminal
 begins_right_paren = refl
-
--- a limit that is kept, of a list
-abbrev pub TallList : ℕ → List ExprTree → Type 0
-TallList n b = n ≤ list_height b
 
 module _ (place : ℕ → Span) (bounds : Bounds) (n : ℕ) (nested : Part → Parser ExprTree)
     (u : (x : Part) → Laws bounds.most (nested x) (PartRel place x) (AfterPart x) (Tall n)) where
@@ -65,13 +61,13 @@ module _ (place : ℕ → Span) (bounds : Bounds) (n : ℕ) (nested : Part → P
   exprs_laws = renamed ExprsRel AfterExprs
       (rep {Q = Comma} (is t.Comma)
       (seq whole (λ x. pure_laws bounds.most (x ∷ []) (λ _ y. stops_expression y ≡ false) (TallList n)) (λ s x m b j d last. same_after (λ y. stops_expression y ≡ false) s (x ∷ []) b m j d last)
-      (λ s x m b j d h. tall.tall_one n x b d.tree h))
+      (λ s x m b j d at h. tall.tall_one n x b d.tree h))
       (λ b. tok t.Comma refl (λ _. seq whole (λ x. pure_laws bounds.most (b ++ x ∷ []) (λ _ y. stops_expression y ≡ false) (TallList n))
-      (λ s x m c j d last. same_after (λ y. stops_expression y ≡ false) s (b ++ x ∷ []) c m j d last) (λ s x m c j d h. tall.tall_end n b x c d.tree h)))
+      (λ s x m c j d last. same_after (λ y. stops_expression y ≡ false) s (b ++ x ∷ []) c m j d last) (λ s x m c j d at h. tall.tall_end n b x c d.tree h)))
       (λ s x a i j d. is_kind _ _ d.kind)
       (λ s x a i j d. let h = whole.shape.forward s d.rest.part (suc i) d.rest.at d.rest.first in let e = d.rest.rest.at in omega arith)
       (λ a x o. closer x t.Comma (kind_is x t.Comma o) is_closer.2)
-      (λ s x a i j d h. tall.tall_before n x d.rest.part a d.rest.rest.tree h))
+      (λ s x a i j d at h. tall.tall_before n x d.rest.part a d.rest.rest.tree h))
       to_exprs (λ s a i j d. from_exprs s d) (λ a x e. e)
 
   abbrev pub ArgsRel : Rel (List ExprTree)
@@ -98,4 +94,4 @@ module _ (place : ℕ → Span) (bounds : Bounds) (n : ℕ) (nested : Part → P
   pub arguments_laws : (E : List ExprTree → Terminal → Type 0) → Laws bounds.most (r.arguments place bounds nested) Arguments E (TallList n)
   unfolding r.arguments
   arguments_laws E = tok t.LeftParen refl (λ _. seq args_laws (λ all. tok t.RightParen refl (λ _. pure_laws bounds.most all E (TallList n))) (λ s all m b j d last. d.kind)
-      (λ s all m b j d h. subst (λ (z : List ExprTree). n ≤ list_height z) (sym d.rest.tree) h))
+      (λ s all m b j d at h. subst (TallList n at) (sym d.rest.tree) h))

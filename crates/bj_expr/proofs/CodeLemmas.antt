@@ -3,10 +3,11 @@ use Rattle.std.proofs.Common.{List, [], ◌∷◌, ◌++◌, ◌≡◌, ℕ, zer
 use Rattle.bj_core.specs.declared.types.Span.{Span}
 use Rattle.bj_tree.specs.declared.expr.ExprTree.{ExprTree}
 use Rattle.bj_grammar.specs.declared.stop.Stop.{Stop}
+use Rattle.bj_grammar.specs.declared.stop.Stop.TheVariants as f
 use Rattle.bj_grammar.specs.declared.terminal.Terminal.TheVariants as t
 use Rattle.bj_grammar.specs.Terminal.{terminal, same_terminal, among}
-use Rattle.bj_grammar.specs.Reader.{Text, Answer, Found, Wrong, Over, Parser, and_then, ◌>>=◌, pure, over, sign, choose, loop}
-use Rattle.bj_grammar.specs.Given.{IsOver, Fails}
+use Rattle.bj_grammar.specs.Reader.{Text, Answer, Found, Wrong, Over, Parser, and_then, ◌>>=◌, pure, over, nowhere, sign, choose, loop}
+use Rattle.bj_grammar.specs.Given.{IsDeepAt, Fails}
 use Rattle.bj_grammar.proofs.LoopLemmas.{fails_then, fails_same, loop_start}
 use Rattle.bj_expr.specs.declared.bounds.Bounds.{Bounds}
 use Rattle.bj_expr.specs.declared.part.Part.{Part}
@@ -51,23 +52,23 @@ module _ (place : ℕ → Span) (bounds : Bounds) (nested : Part → Parser Expr
 
   values_stop : (n : ℕ) (b : List ExprTree) (s : Text) (i : ℕ) → same_terminal (terminal (s i)) t.Comma ≡ false → more_values place bounds nested n b s i ≡ Found b i
   unfolding more_values
-  values_stop zero b s i e = ap (λ (x : Bool). cond x (over s i) (Found b i)) e
+  values_stop zero b s i e = ap (λ (x : Bool). cond x (over (λ _. nowhere) s i) (Found b i)) e
   values_stop (suc n) b s i e = ap (λ (x : Bool). cond x (sign t.Comma (value n b) s i) (Found b i)) e
 
   values_turn : (n : ℕ) (b : List ExprTree) (s : Text) (i : ℕ) → same_terminal (terminal (s i)) t.Comma ≡ true → more_values place bounds nested (suc n) b s i ≡ value n b s (suc i)
   unfolding more_values
   values_turn n b s i e = ap (λ (x : Bool). cond x (cond x (value n b s (suc i)) (Wrong i)) (Found b i)) e
 
-  values_over : (b : List ExprTree) (s : Text) (i : ℕ) → same_terminal (terminal (s i)) t.Comma ≡ true → IsOver (more_values place bounds nested 0 b s i)
+  values_over : (b : List ExprTree) (s : Text) (i : ℕ) → same_terminal (terminal (s i)) t.Comma ≡ true → IsDeepAt nowhere (more_values place bounds nested 0 b s i)
   unfolding more_values
-  values_over b s i e = subst (λ (x : Bool). IsOver (cond x (over s i) (Found b i))) (sym e) tt
+  values_over b s i e = subst (λ (x : Bool). IsDeepAt nowhere (cond x (over (λ _. nowhere) s i) (Found b i))) (sym e) refl
 
   module _ (s : Text) (before : Answer (List ExprTree)) (most turn : ℕ) (b : List ExprTree) (at : ℕ) (so_far : before ≡ more_values place bounds nested (most - turn) b s at) where
     pub values_end : same_terminal (terminal (s at)) t.Comma ≡ false → before ≡ Found b at
     values_end none = so_far ∙ values_stop (most - turn) b s at none
 
-    pub values_past : most ≤ turn → same_terminal (terminal (s at)) t.Comma ≡ true → IsOver before
-    values_past above one = subst IsOver (sym (none_left (λ n. more_values place bounds nested n b s at) most turn above so_far)) (values_over b s at one)
+    pub values_past : most ≤ turn → same_terminal (terminal (s at)) t.Comma ≡ true → IsDeepAt nowhere before
+    values_past above one = subst (IsDeepAt nowhere) (sym (none_left (λ n. more_values place bounds nested n b s at) most turn above so_far)) (values_over b s at one)
 
     module _ (below : turn < most) (one : same_terminal (terminal (s at)) t.Comma ≡ true) (next : ℕ) (after : next ≡ suc at) where
       values_after : before ≡ value (most - (turn + 1)) b s next
@@ -96,7 +97,7 @@ closed (Found x j) s b g = of (same_terminal (terminal (s j)) t.RightBracket)
     of true = refl
     of false = refl
 closed (Wrong k) s b g = refl
-closed (Over k) s b g = refl
+closed (Over k at) s b g = refl
 
 module _ (place : ℕ → Span) (bounds : Bounds) (nested : Part → Parser ExprTree) where
   abbrev pub one_size : List ExprTree → Parser (List ExprTree)
@@ -111,23 +112,23 @@ module _ (place : ℕ → Span) (bounds : Bounds) (nested : Part → Parser Expr
 
   sizes_stop : (n : ℕ) (b : List ExprTree) (s : Text) (i : ℕ) → same_terminal (terminal (s i)) t.LeftBracket ≡ false → more_sizes place bounds nested n b s i ≡ Found (b, 0) i
   unfolding more_sizes
-  sizes_stop zero b s i e = ap (λ (x : Bool). cond x (over s i) (Found (b, 0) i)) e
+  sizes_stop zero b s i e = ap (λ (x : Bool). cond x (over (λ _. nowhere) s i) (Found (b, 0) i)) e
   sizes_stop (suc n) b s i e = ap (λ (x : Bool). cond x (sign t.LeftBracket (bracket n b) s i) (Found (b, 0) i)) e
 
   sizes_turn : (n : ℕ) (b : List ExprTree) (s : Text) (i : ℕ) → same_terminal (terminal (s i)) t.LeftBracket ≡ true → more_sizes place bounds nested (suc n) b s i ≡ bracket n b s (suc i)
   unfolding more_sizes
   sizes_turn n b s i e = ap (λ (x : Bool). cond x (cond x (bracket n b s (suc i)) (Wrong i)) (Found (b, 0) i)) e
 
-  sizes_over : (b : List ExprTree) (s : Text) (i : ℕ) → same_terminal (terminal (s i)) t.LeftBracket ≡ true → IsOver (more_sizes place bounds nested 0 b s i)
+  sizes_over : (b : List ExprTree) (s : Text) (i : ℕ) → same_terminal (terminal (s i)) t.LeftBracket ≡ true → IsDeepAt nowhere (more_sizes place bounds nested 0 b s i)
   unfolding more_sizes
-  sizes_over b s i e = subst (λ (x : Bool). IsOver {A = List ExprTree × ℕ} (cond x (over s i) (Found (b, 0) i))) (sym e) tt
+  sizes_over b s i e = subst (λ (x : Bool). IsDeepAt {A = List ExprTree × ℕ} nowhere (cond x (over (λ _. nowhere) s i) (Found (b, 0) i))) (sym e) refl
 
   module _ (s : Text) (before : Answer (List ExprTree × ℕ)) (most turn : ℕ) (b : List ExprTree) (at : ℕ) (so_far : before ≡ more_sizes place bounds nested (most - turn) b s at) where
     pub sizes_end : same_terminal (terminal (s at)) t.LeftBracket ≡ false → before ≡ Found (b, 0) at
     sizes_end none = so_far ∙ sizes_stop (most - turn) b s at none
 
-    pub sizes_past : most ≤ turn → same_terminal (terminal (s at)) t.LeftBracket ≡ true → IsOver before
-    sizes_past above one = subst IsOver (sym (none_left (λ n. more_sizes place bounds nested n b s at) most turn above so_far)) (sizes_over b s at one)
+    pub sizes_past : most ≤ turn → same_terminal (terminal (s at)) t.LeftBracket ≡ true → IsDeepAt nowhere before
+    sizes_past above one = subst (IsDeepAt nowhere) (sym (none_left (λ n. more_sizes place bounds nested n b s at) most turn above so_far)) (sizes_over b s at one)
 
     module _ (below : turn < most) (one : same_terminal (terminal (s at)) t.LeftBracket ≡ true) (next : ℕ) (after : next ≡ suc at) where
       sizes_after : before ≡ bracket (most - (turn + 1)) b s next

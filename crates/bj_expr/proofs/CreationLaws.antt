@@ -51,7 +51,7 @@ module _ (place : ℕ → Span) (bounds : Bounds) (n : ℕ) (nested : Part → P
   valued_laws : (i m : ℕ) (v : Token) (k : ℕ) → Laws bounds.most (r.valued place bounds nested i m v k) (ValuedRel i m v k) AfterPrimary (Tall (suc n))
   unfolding r.valued
   valued_laws i m v k = seq (values_laws place bounds n nested u (λ _ _. Unit {0})) (λ all. pure_laws bounds.most (tree.NewValues (place i) (type_tree (place m) v k) all) AfterPrimary (Tall (suc n)))
-      (λ s all k2 b j d last. tt) (λ s all k2 b j d h. tall.tall_newvalues_values n (place i) (type_tree (place m) v k) all b d.tree h)
+      (λ s all k2 b j d last. tt) (λ s all k2 b j d at h. tall.tall_newvalues_values n (place i) (type_tree (place m) v k) all b d.tree h)
 
   abbrev UnsizedRel : ℕ → ℕ → Token → Rel ExprTree
   UnsizedRel i m v = Word t.RightBracket (λ _. Then (Pairs 1) (λ k. ValuedRel i m v k))
@@ -59,7 +59,7 @@ module _ (place : ℕ → Span) (bounds : Bounds) (n : ℕ) (nested : Part → P
   unsized_laws : (i m : ℕ) (v : Token) → Laws bounds.most (r.unsized place bounds nested i m v) (UnsizedRel i m v) AfterPrimary (Tall (suc n))
   unfolding r.unsized
   unsized_laws i m v = tok t.RightBracket refl (λ _. seq (pairs_laws bounds.most 1) (λ k. valued_laws i m v k)
-      (λ s k k2 b j d last. is_not _ _ t.LeftBracket (values_begin place s d.first) brackets_not.3) (λ s k k2 b j d h. absurd h))
+      (λ s k k2 b j d last. is_not _ _ t.LeftBracket (values_begin place s d.first) brackets_not.3) (λ s k k2 b j d at h. absurd h))
 
   -- ---- sizes
 
@@ -74,9 +74,9 @@ module _ (place : ℕ → Span) (bounds : Bounds) (n : ℕ) (nested : Part → P
   sized_laws i m v = seq whole (λ x. tok t.RightBracket refl (λ _. seq (more_sizes_laws place bounds n nested u bounds.most (le_refl bounds.most) (x ∷ []))
       (λ d. pure_laws bounds.most (tree.NewArray (place i) (type_tree (place m) v 0) d.0 d.1) AfterPrimary (Tall (suc n)))
       (λ s d k b j c last. same_after AfterType s b b k j (record { tree = refl; at = c.at }) (last.1 (ap is_new_array c.tree ∙ new_array_is (place i) (type_tree (place m) v 0) d.0 d.1)))
-      (λ s d k b j c h. tall.tall_newarray_sizes n (place i) (type_tree (place m) v 0) d.0 d.1 b c.tree h)))
+      (λ s d k b j c at h. tall.tall_newarray_sizes n (place i) (type_tree (place m) v 0) d.0 d.1 b c.tree h)))
       (λ s x k b j d last. closer _ t.RightBracket d.kind is_closer.1)
-      (λ s x k b j d h. tall.tall_newarray_sizes n (place i) (type_tree (place m) v 0) d.rest.part.0 d.rest.part.1 b d.rest.rest.tree
+      (λ s x k b j d at h. tall.tall_newarray_sizes n (place i) (type_tree (place m) v 0) d.rest.part.0 d.rest.part.1 b d.rest.rest.tree
       (more_grows place bounds n nested u s d.rest.first (tall.tall_one n x (x ∷ []) refl h)))
 
   -- ---- arrays and objects
@@ -99,7 +99,7 @@ module _ (place : ℕ → Span) (bounds : Bounds) (n : ℕ) (nested : Part → P
   object_laws : (i : ℕ) (class : List ℕ) → Laws bounds.most (r.object place bounds nested i class) (ObjectRel i class) AfterPrimary (Tall (suc n))
   unfolding r.object
   object_laws i class = seq (arguments_laws place bounds n nested u (λ _ _. Unit {0})) (λ all. pure_laws bounds.most (tree.New (place i) class all) AfterPrimary (Tall (suc n)))
-      (λ s all m b j d last. tt) (λ s all m b j d h. tall.tall_new_args n (place i) class all b d.tree h)
+      (λ s all m b j d last. tt) (λ s all m b j d at h. tall.tall_new_args n (place i) class all b d.tree h)
 
   -- a new object of the class that the token names
   pub record OfClass (i : ℕ) (v : Token) (s : Text) (a : ExprTree) (m j : ℕ) : Type 0 where

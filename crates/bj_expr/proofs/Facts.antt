@@ -1,5 +1,5 @@
 -- Terminals in lists.
-use Rattle.std.proofs.Common.{◌≡◌, ℕ, zero, suc, ◌<◌, ◌⊎◌, inl, inr, Bool, true, false, refl, sym, ap, ◌∙◌, subst, arith, List, [], ◌∷◌}
+use Rattle.std.proofs.Common.{◌≡◌, ℕ, zero, suc, ◌<◌, ◌≤◌, ◌⊎◌, inl, inr, Bool, true, false, refl, sym, ap, ◌∙◌, subst, arith, List, [], ◌∷◌}
 use Rattle.std.specs.Prelude.{◌||◌}
 use Rattle.std.proofs.lemmas.Bool.{cases_Bool, both_ways}
 use Rattle.bj_grammar.specs.declared.terminal.Terminal.{Terminal}
@@ -83,6 +83,39 @@ conditional_closes = each (λ x. stops_conditional x ≡ false) closers (refl, (
 pub unary_closes : (x : Terminal) → among closers x ≡ true → stops_level 0 x ≡ false
 unfolding same_terminal
 unary_closes = each (λ x. stops_level 0 x ≡ false) closers (refl, (refl, (refl, (refl, (refl, (refl, (refl, tt)))))))
+
+-- no operator begins with a token that ends an expression
+goes_closes : (h : ℕ) (x : Terminal) → among closers x ≡ true → goes_on h x ≡ false
+unfolding same_terminal
+goes_closes zero x e = each (λ x. goes_on 0 x ≡ false) closers (refl, (refl, (refl, (refl, (refl, (refl, (refl, tt))))))) x e
+goes_closes (suc zero) x e = each (λ x. goes_on 1 x ≡ false) closers (refl, (refl, (refl, (refl, (refl, (refl, (refl, tt))))))) x e
+goes_closes (suc (suc zero)) x e = each (λ x. goes_on 2 x ≡ false) closers (refl, (refl, (refl, (refl, (refl, (refl, (refl, tt))))))) x e
+goes_closes (suc (suc (suc zero))) x e = each (λ x. goes_on 3 x ≡ false) closers (refl, (refl, (refl, (refl, (refl, (refl, (refl, tt))))))) x e
+goes_closes (suc (suc (suc (suc zero)))) x e = each (λ x. goes_on 4 x ≡ false) closers (refl, (refl, (refl, (refl, (refl, (refl, (refl, tt))))))) x e
+goes_closes (suc (suc (suc (suc (suc zero))))) x e = each (λ x. goes_on 5 x ≡ false) closers (refl, (refl, (refl, (refl, (refl, (refl, (refl, tt))))))) x e
+goes_closes (suc (suc (suc (suc (suc (suc zero)))))) x e = each (λ x. goes_on 6 x ≡ false) closers (refl, (refl, (refl, (refl, (refl, (refl, (refl, tt))))))) x e
+goes_closes (suc (suc (suc (suc (suc (suc (suc zero))))))) x e = each (λ x. goes_on 7 x ≡ false) closers (refl, (refl, (refl, (refl, (refl, (refl, (refl, tt))))))) x e
+goes_closes (suc (suc (suc (suc (suc (suc (suc (suc zero)))))))) x e = each (λ x. goes_on 8 x ≡ false) closers (refl, (refl, (refl, (refl, (refl, (refl, (refl, tt))))))) x e
+goes_closes (suc (suc (suc (suc (suc (suc (suc (suc (suc zero))))))))) x e = each (λ x. goes_on 9 x ≡ false) closers (refl, (refl, (refl, (refl, (refl, (refl, (refl, tt))))))) x e
+goes_closes (suc (suc (suc (suc (suc (suc (suc (suc (suc (suc h)))))))))) x e = refl
+
+pub level_closes : (h : ℕ) (x : Terminal) → among closers x ≡ true → stops_level h x ≡ false
+level_closes zero x e = unary_closes x e
+level_closes (suc h) x e = or_join (goes_on h x) (stops_level h x) (goes_closes h x e) (level_closes h x e)
+
+-- there are no operators of the ranks above the last
+pub goes_no_further : (h : ℕ) → 10 ≤ h → (x : Terminal) → goes_on h x ≡ false
+goes_no_further zero le x = absurd (omega arith)
+goes_no_further (suc zero) le x = absurd (omega arith)
+goes_no_further (suc (suc zero)) le x = absurd (omega arith)
+goes_no_further (suc (suc (suc zero))) le x = absurd (omega arith)
+goes_no_further (suc (suc (suc (suc zero)))) le x = absurd (omega arith)
+goes_no_further (suc (suc (suc (suc (suc zero))))) le x = absurd (omega arith)
+goes_no_further (suc (suc (suc (suc (suc (suc zero)))))) le x = absurd (omega arith)
+goes_no_further (suc (suc (suc (suc (suc (suc (suc zero))))))) le x = absurd (omega arith)
+goes_no_further (suc (suc (suc (suc (suc (suc (suc (suc zero)))))))) le x = absurd (omega arith)
+goes_no_further (suc (suc (suc (suc (suc (suc (suc (suc (suc zero))))))))) le x = absurd (omega arith)
+goes_no_further (suc (suc (suc (suc (suc (suc (suc (suc (suc (suc h)))))))))) le x = refl
 
 pub question_after : stops_level ranks t.Question ≡ false
 unfolding same_terminal

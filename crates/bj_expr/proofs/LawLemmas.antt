@@ -1,31 +1,43 @@
--- What the laws of the rules share: choices by a truth value, limits, and what may stand behind a part.
-use Rattle.std.proofs.Common.{◌≡◌, ℕ, suc, ◌<◌, ◌≤◌, inl, Bool, true, false, cond, refl, ap, ◌∙◌, subst, arith, List}
-use Rattle.std.specs.Prelude.{nat_lt}
-use Rattle.std.proofs.lemmas.Bool.{ltb-true}
+-- What the laws of the rules share: choices by a truth value, readers that give the same, limits, and what may stand behind a part.
+use Rattle.std.proofs.Common.{◌≡◌, ℕ, zero, suc, ◌<◌, ◌≤◌, inl, Bool, true, false, cond, refl, sym, ap, ◌∙◌, subst, arith, List, [], ◌∷◌, Option, None, Some}
+use Rattle.std.specs.Prelude.{Contains}
 use Rattle.bj_core.specs.declared.types.Span.{Span}
 use Rattle.bj_tree.specs.declared.expr.ExprTree.{ExprTree}
-use Rattle.bj_tree.specs.Size.{height_of}
 use Rattle.bj_expr.specs.declared.part.Part.{Part}
 use Rattle.bj_expr.specs.declared.part.Part.TheVariants as part
 use Rattle.bj_grammar.specs.declared.terminal.Terminal.{Terminal}
 use Rattle.bj_grammar.specs.declared.terminal.Terminal.TheVariants as t
 use Rattle.bj_grammar.specs.Terminal.{terminal, same_terminal, among}
-use Rattle.bj_grammar.specs.Reader.{Text, Parser}
+use Rattle.bj_grammar.specs.Reader.{Text, Answer, Parser, ◌>>=◌, pure, unless_deep}
+use Rattle.bj_expr.specs.Nodes.{nodes_at, HasNode, first}
 use Rattle.bj_expr.specs.Reading.{limited}
 use Rattle.bj_expr.specs.Within.{Stands}
-use Rattle.bj_grammar.proofs.Laws.{Rel, Laws, Same, pure_laws, over_laws}
+use Rattle.bj_grammar.proofs.Laws.{reached, stop, halted, Outcome, Rel, Laws, Same, over_laws}
 use Rattle.bj_expr.proofs.Facts.{stops_level, stops_conditional, stops_expression, closers, closes}
 
 -- ---- by a truth value
 
-pub cond_laws : {A : Type 0} {n : ℕ} {p q : Parser A} {D : Rel A} {E : A → Terminal → Type 0} {T : A → Type 0} (b : Bool) → (b ≡ true → Laws n p D E T) → (b ≡ false → Laws n q D E T)
+pub cond_laws : {A : Type 0} {n : ℕ} {p q : Parser A} {D : Rel A} {E : A → Terminal → Type 0} {T : Span → A → Type 0} (b : Bool) → (b ≡ true → Laws n p D E T) → (b ≡ false → Laws n q D E T)
     → Laws n (λ s i. cond b (p s i) (q s i)) D E T
 cond_laws true u v = u refl
 cond_laws false u v = v refl
 
-pub pick_laws : {A : Type 0} {n : ℕ} {p q : Parser A} {D : Rel A} {E : A → Terminal → Type 0} {T : A → Type 0} (b : Bool) → (b ≡ true → Laws n p D E T) → (b ≡ false → Laws n q D E T) → Laws n (cond b p q) D E T
+pub pick_laws : {A : Type 0} {n : ℕ} {p q : Parser A} {D : Rel A} {E : A → Terminal → Type 0} {T : Span → A → Type 0} (b : Bool) → (b ≡ true → Laws n p D E T) → (b ≡ false → Laws n q D E T) → Laws n (cond b p q) D E T
 pick_laws true u v = u refl
 pick_laws false u v = v refl
+
+-- ---- a reader that gives the same everywhere has the same laws
+
+pub equal_laws : {A : Type 0} {n : ℕ} {q : Parser A} {D : Rel A} {E : A → Terminal → Type 0} {T : Span → A → Type 0} (p : Parser A) → ((s : Text) (i : ℕ) → p s i ≡ q s i) → Laws n q D E T → Laws n p D E T
+equal_laws {n} {q} {D} {E} {T} p e u = record {
+  shape = u.shape;
+  onward = λ s i. subst (λ (r : Answer _). i ≤ reached r) (sym (e s i)) (u.onward s i);
+  local = λ s t i same. e t i ∙ (u.local s t i (λ x h. same x (subst (λ (r : Answer _). x ≤ stop r) (sym (e s i)) h)) ∙ sym (e s i));
+  sound = λ s i a j is. u.sound s i a j (sym (e s i) ∙ is);
+  inside = λ s i x low high. u.inside s i x low (subst (λ (r : Answer _). x < reached r) (e s i) high);
+  complete = λ s i a j d last. subst (λ (r : Answer _). Outcome n T r a i j) (sym (e s i)) (u.complete s i a j d last);
+  viable = λ s i k is. u.viable s i k (sym (ap halted (e s i)) ∙ is);
+}
 
 -- ---- terminals
 
@@ -59,28 +71,41 @@ PartRel place x = λ s a i j. Stands x place s a i j
 abbrev pub AfterPart : Part → ExprTree → Terminal → Type 0
 AfterPart part.Expression = After stops_expression
 AfterPart part.Conditional = After stops_conditional
+AfterPart (part.Operand h) = After (stops_level h)
 AfterPart part.Unary = After (stops_level 0)
 AfterPart part.Plain = After (stops_level 0)
 AfterPart part.Initializer = After stops_expression
 
 -- ---- limits
 
-abbrev pub Never : {A : Type 0} → A → Type 0
-Never a = ⊥
+-- no node makes the limit pass
+abbrev pub Never : {A : Type 0} → Span → A → Type 0
+Never at a = ⊥
 
--- a limit that is kept
-abbrev pub Tall : ℕ → ExprTree → Type 0
-Tall n a = n ≤ height_of a
+-- a node with so many nodes on the way to it, both ends included
+abbrev pub Tall : ℕ → Span → ExprTree → Type 0
+Tall n at a = HasNode n at a
 
-pub more_than : (k : ℕ) (b : ExprTree) → suc (suc k) ≤ height_of b → suc k ≤ height_of b
-more_than k b h = omega arith
+pub more_than : {at : Span} (k : ℕ) (b : ExprTree) → Tall (suc (suc k)) at b → Tall (suc k) at b
+more_than k b h = (h.0, fewer k h.0 h.1, h.2)
+  where
+    fewer : (k above : ℕ) → suc (suc k) ≤ suc above → suc k ≤ suc above
+    fewer k above le = omega arith
 
-module _ (most room n : ℕ) (small : n ≤ room) where
-  pub limited_laws : (b : ExprTree) (E : ExprTree → Terminal → Type 0) → Laws most (limited room b) (Same b) E (Tall (suc n))
+first_stands : (ps : List Span) (at : Span) → first ps ≡ Some at → Contains ps at
+first_stands [] at e = absurd (cc)
+first_stands (p ∷ ps) at e = (zero, omega arith, cc)
+
+module _ (most room n : ℕ) (small : n ≡ suc room) where
+  deep_in : (b : ExprTree) (at : Span) → first (nodes_at b room) ≡ Some at → Tall n at b
+  deep_in b at e = (room, omega arith, first_stands (nodes_at b room) at e)
+
+  -- an operand that was read before the node above it: a node in it that is too deep is so in each tree that goes on from it
+  pub limited_then : {D : Rel ExprTree} {E : ExprTree → Terminal → Type 0} (f : ExprTree → Parser ExprTree) (b : ExprTree) → Laws most (f b) D E (Tall (suc n))
+      → ((at : Span) → Tall n at b → (s : Text) (a : ExprTree) (i j : ℕ) → D s a i j → Tall (suc n) at a) → Laws most (limited room b >>= f) D E (Tall (suc n))
   unfolding limited
-  limited_laws b E = cond_laws (nat_lt room (height_of b))
-      (λ e. over_laws most (Same b) E (Tall (suc n)) (pure_laws most b E (Tall (suc n))).shape (λ s a i j d. inl (too_high a d.tree (ltb-true _ _ e))))
-      (λ e. pure_laws most b E (Tall (suc n)))
+  limited_then {D} {E} f b u grow = of (first (nodes_at b room)) (λ at e. deep_in b at e)
     where
-      too_high : (a : ExprTree) → a ≡ b → room < height_of b → suc n ≤ height_of a
-      too_high a e h = let k = ap height_of e in omega arith
+      of : (x : Option Span) → ((at : Span) → x ≡ Some at → Tall n at b) → Laws most (unless_deep x (pure b) >>= f) D E (Tall (suc n))
+      of None deep = u
+      of (Some at) deep = over_laws most (λ _. at) D E (Tall (suc n)) u.shape (λ s a i j d. inl (grow at (deep at refl) s a i j d))

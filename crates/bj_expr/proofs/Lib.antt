@@ -1,3 +1,4 @@
+pub mod NodeForms
 pub mod ExprShape
 pub mod Tall
 pub mod Facts
@@ -7,7 +8,7 @@ pub mod TypeLaws
 pub mod ArgumentLaws
 pub mod ValueLaws
 pub mod SizeLaws
-pub mod SomeHeight
+pub mod SomeNode
 pub mod CreationLaws
 pub mod PrimaryLaws
 pub mod SelectionLaws
@@ -18,6 +19,8 @@ pub mod LevelLaws
 pub mod ExpressionLaws
 pub mod NestedLaws
 pub mod WithinLaws
+pub mod NodeHeights
+pub mod LowLaws
 pub mod CastTokens
 pub mod CodeLemmas
 pub mod DepthLemmas

@@ -1,9 +1,8 @@
 -- The readers of primary expressions.
-use Rattle.std.proofs.Common.{◌≡◌, ℕ, suc, ◌≤◌, inl, inr, true, false, refl, ap, ◌∙◌, subst, List}
+use Rattle.std.proofs.Common.{◌≡◌, ℕ, suc, inl, inr, true, false, refl, ap, ◌∙◌, subst, List}
 use Rattle.bj_core.specs.declared.types.Span.{Span}
 use Rattle.bj_tree.specs.declared.expr.ExprTree.{ExprTree}
 use Rattle.bj_tree.specs.declared.expr.ExprTree.TheVariants as tree
-use Rattle.bj_tree.specs.Size.{height_of}
 use Rattle.bj_expr.specs.declared.bounds.Bounds.{Bounds}
 use Rattle.bj_expr.specs.declared.part.Part.{Part}
 use Rattle.bj_expr.specs.declared.part.Part.TheVariants as part
@@ -17,7 +16,7 @@ use Rattle.bj_expr.specs.Reading.{is, begins_plain}
 use Rattle.bj_grammar.proofs.Laws.{Rel, Laws, Then, Same, Word, Operator, Either, pure_laws, is_kind, seq, alt, tok, op, start, renamed}
 use Rattle.bj_expr.proofs.Facts.{other_way, stops_expression, tokens_of}
 use Rattle.bj_expr.proofs.Tall as tall
-use Rattle.bj_expr.proofs.Tall.{list_height}
+use Rattle.bj_expr.proofs.Tall.{TallList}
 use Rattle.bj_expr.proofs.LawLemmas.{Tall, After, PartRel, AfterPart, is_not, not_among, closer, is_closer}
 use Rattle.bj_expr.proofs.ArgumentLaws.{Arguments, arguments_laws}
 use Rattle.bj_expr.proofs.CreationLaws.{AfterPrimary, CreationRel, creation_laws, to_creation, from_create, from_array, from_valued}
@@ -49,11 +48,11 @@ module _ (place : ℕ → Span) (bounds : Bounds) (n : ℕ) (nested : Part → P
   NamedRel f b = Either (Then Parens (λ all. Same (f all))) (Same b)
 
   -- a name, or a call where a parenthesis comes next
-  choice_laws : (f : List ExprTree → ExprTree) (b : ExprTree) → ((all : List ExprTree) (c : ExprTree) → c ≡ f all → n ≤ list_height all → suc n ≤ height_of c)
+  choice_laws : (f : List ExprTree → ExprTree) (b : ExprTree) → ((at : Span) (all : List ExprTree) (c : ExprTree) → c ≡ f all → TallList n at all → Tall (suc n) at c)
       → Laws bounds.most (choose (is t.LeftParen) (r.arguments place bounds nested >>= λ all. pure (f all)) (pure b)) (NamedRel f b) AfterPrimary (Tall (suc n))
   choice_laws f b high = alt (is t.LeftParen)
       (seq (arguments_laws place bounds n nested u (λ _ _. Unit {0})) (λ all. pure_laws bounds.most (f all) AfterPrimary (Tall (suc n)))
-      (λ s all m c j d last. tt) (λ s all m c j d h. high all c d.tree h))
+      (λ s all m c j d last. tt) (λ s all m c j d at h. high at all c d.tree h))
       (pure_laws bounds.most b AfterPrimary (Tall (suc n)))
       (λ s a i j d last. is_kind _ _ d.first.kind)
       (λ s a i j d last. other_way (among begins_plain) (terminal (s i)) t.LeftParen plain_left_paren (subst (λ (m : ℕ). among begins_plain (terminal (s m)) ≡ false) d.at last.0))
@@ -132,14 +131,14 @@ module _ (place : ℕ → Span) (bounds : Bounds) (n : ℕ) (nested : Part → P
       (alt (is t.This) (tok t.This refl (λ _. pure_laws bounds.most (tree.This (place i)) AfterPrimary (Tall (suc n))))
       (alt (is t.LeftParen)
       (tok t.LeftParen refl (λ _. seq whole (λ x. tok t.RightParen refl (λ _. pure_laws bounds.most (tree.Paren (place i) x) AfterPrimary (Tall (suc n))))
-      (λ s x m b j d last. closer (terminal (s m)) t.RightParen d.kind is_closer.0) (λ s x m b j d h. tall.tall_paren_inner n (place i) x b d.rest.tree h)))
+      (λ s x m b j d last. closer (terminal (s m)) t.RightParen d.kind is_closer.0) (λ s x m b j d at h. tall.tall_paren_inner n (place i) x b d.rest.tree h)))
       (alt (is t.Super)
       (tok t.Super refl (λ _. tok t.Dot refl (λ _. tok {Q = λ v. NamedRel (tree.SuperCall (place i) v) (tree.SuperField (place i) v)} t.Word refl
-      (λ v. choice_laws (tree.SuperCall (place i) v) (tree.SuperField (place i) v) (λ all c e h. tall.tall_supercall_args n (place i) v all c e h)))))
+      (λ v. choice_laws (tree.SuperCall (place i) v) (tree.SuperField (place i) v) (λ at all c e h. tall.tall_supercall_args n (place i) v all c e h)))))
       (alt (is t.New)
       (creation_laws place bounds n nested u i)
       (tok {Q = λ v. NamedRel (tree.Call (place i) v) (tree.Name (place i) v)} t.Word refl
-      (λ v. choice_laws (tree.Call (place i) v) (tree.Name (place i) v) (λ all c e h. tall.tall_call_args n (place i) v all c e h)))
+      (λ v. choice_laws (tree.Call (place i) v) (tree.Name (place i) v) (λ at all c e h. tall.tall_call_args n (place i) v all c e h)))
       (λ s a m j d last. is_kind _ _ d.kind)
       (λ s a m j d last. is_not _ _ t.New d.kind primary_not.0))
       (λ s a m j d last. is_kind _ _ d.kind)

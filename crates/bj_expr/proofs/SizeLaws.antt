@@ -8,7 +8,7 @@ use Rattle.bj_expr.specs.declared.part.Part.TheVariants as part
 use Rattle.bj_grammar.specs.declared.terminal.Terminal.{Terminal}
 use Rattle.bj_grammar.specs.declared.terminal.Terminal.TheVariants as t
 use Rattle.bj_grammar.specs.Terminal.{terminal, same_terminal, among}
-use Rattle.bj_grammar.specs.Reader.{Text, Parser, ◌>>=◌, pure, sign}
+use Rattle.bj_grammar.specs.Reader.{nowhere, Text, Parser, ◌>>=◌, pure, sign}
 use Rattle.bj_expr.specs.Grammar as g
 use Rattle.bj_expr.specs.Grammar.{Expression, Sizes, Dims}
 use Rattle.bj_expr.specs.Reading as r
@@ -18,7 +18,7 @@ use Rattle.bj_expr.proofs.Facts.{other, stops_expression, begins_unary}
 use Rattle.bj_expr.proofs.Begins.{expression_begins}
 use Rattle.bj_expr.proofs.ExprShape.{expression_forward}
 use Rattle.bj_expr.proofs.Tall as tall
-use Rattle.bj_expr.proofs.Tall.{list_height}
+use Rattle.bj_expr.proofs.Tall.{TallList}
 use Rattle.bj_expr.proofs.LawLemmas.{same_after, Never, Tall, After, PartRel, AfterPart, closer, is_closer}
 use Rattle.bj_expr.proofs.TypeLaws.{AfterType, Pairs, pairs_laws, to_dims, from_dims}
 
@@ -37,8 +37,8 @@ pub data MoreSizes (place : ℕ → Span) (s : Text) : List ExprTree → Sized �
   one_more_size : {b : List ExprTree} {a : Sized} {x : ExprTree} {i m j : ℕ} → terminal (s i) ≡ t.LeftBracket → Expression place s x (suc i) m → terminal (s m) ≡ t.RightBracket
       → MoreSizes place s (b ++ x ∷ []) a (suc m) j → MoreSizes place s b a i j
 
-abbrev pub TallSizes : ℕ → Sized → Type 0
-TallSizes n a = n ≤ list_height a.0
+abbrev pub TallSizes : ℕ → Span → Sized → Type 0
+TallSizes n p a = TallList n p a.0
 
 abbrev AfterSizes : Sized → Terminal → Type 0
 AfterSizes = λ _ x. AfterType x
@@ -106,14 +106,14 @@ module _ (place : ℕ → Span) (bounds : Bounds) (n : ℕ) (nested : Part → P
   from_more s {j} (only_pairs {d} o o2 p e) = inl (record { kind = o; rest = inl (record { kind = o2; rest = record { part = d; at = j; first = p; rest = record { tree = e; at = refl } } }) })
   from_more s (one_more_size {x} {m} o d o2 y) = inl (record { kind = o; rest = inr (record { part = x; at = m; first = d; rest = record { kind = o2; rest = y } }) })
 
-  pub more_grows : (s : Text) {b : List ExprTree} {a : Sized} {i j : ℕ} → MoreSizes place s b a i j → n ≤ list_height b → TallSizes n a
-  more_grows s (no_more e at) h = subst (TallSizes n) (sym e) h
-  more_grows s (only_pairs o o2 p e) h = subst (TallSizes n) (sym e) h
+  pub more_grows : (s : Text) {b : List ExprTree} {a : Sized} {i j : ℕ} {p : Span} → MoreSizes place s b a i j → TallList n p b → TallSizes n p a
+  more_grows s {p} (no_more e at) h = subst (TallSizes n p) (sym e) h
+  more_grows s {p} (only_pairs o o2 q e) h = subst (TallSizes n p) (sym e) h
   more_grows s {b} (one_more_size {x} o d o2 y) h = more_grows s y (tall.tall_before n b x (b ++ x ∷ []) refl h)
 
   pairs_here : (k : ℕ) (b : List ExprTree) → Laws k (r.pairs bounds.most 1) (Pairs 1) (λ _ x. AfterType x) Never → Laws k (sign t.RightBracket (r.pairs bounds.most 1 >>= λ d. pure (b, d))) (PairsRel b) AfterSizes (TallSizes n)
   pairs_here k b w = tok t.RightBracket refl (λ _. seq w (λ d. pure_laws k (b, d) AfterSizes (TallSizes n))
-      (λ s d m a j c last. same_after AfterType s (b, d) a m j c last) (λ s d m a j c h. absurd h))
+      (λ s d m a j c last. same_after AfterType s (b, d) a m j c last) (λ s d m a j c at h. absurd h))
 
   no_bracket : (b : List ExprTree) (s : Text) (a : Sized) (i j : ℕ) → Same (b, 0) s a i j → AfterType (terminal (s j)) → AfterType (terminal (s i))
   no_bracket b s a i j d last = same_after AfterType s (b, 0) a i j d last
@@ -121,7 +121,7 @@ module _ (place : ℕ → Span) (bounds : Bounds) (n : ℕ) (nested : Part → P
   pub more_sizes_laws : (k : ℕ) → k ≤ bounds.most → (b : List ExprTree) → Laws k (r.more_sizes place bounds nested k b) (λ s a i j. MoreSizes place s b a i j) (λ _ x. AfterType x) (TallSizes n)
   unfolding r.more_sizes
   more_sizes_laws zero le b = renamed (MoreRel b) AfterSizes
-      (alt {P = BracketRel b} (is t.LeftBracket) (over_laws zero (BracketRel b) AfterSizes (TallSizes n) (bracket_shape b) (λ s a i j d. let h = (bracket_shape b).forward s a i j d in inr (omega arith)))
+      (alt {P = BracketRel b} (is t.LeftBracket) (over_laws zero (λ _. nowhere) (BracketRel b) AfterSizes (TallSizes n) (bracket_shape b) (λ s a i j d. let h = (bracket_shape b).forward s a i j d in inr (omega arith)))
       (pure_laws zero (b, 0) AfterSizes (TallSizes n))
       (λ s a i j d last. is_kind _ _ d.kind) (λ s a i j d last. no_bracket b s a i j d last))
       (λ s a i j d. to_more b s a i j d) (λ s a i j d. from_more s d) (λ a x e. e)
@@ -129,13 +129,13 @@ module _ (place : ℕ → Span) (bounds : Bounds) (n : ℕ) (nested : Part → P
       (alt {P = BracketRel b} (is t.LeftBracket)
       (tok t.LeftBracket refl (λ _. alt (is t.RightBracket)
       (pairs_here (suc k) b
-      (same_laws bounds.most (suc k) (r.pairs bounds.most 1) (Pairs 1) (λ _ x. AfterType x) Never (Pairs 1) (λ _ x. AfterType x) Never (pairs_laws bounds.most 1) (λ s a i j d. d) (λ s a i j d. d) (λ a x h. h) (λ a h. h) le))
+      (same_laws bounds.most (suc k) (r.pairs bounds.most 1) (Pairs 1) (λ _ x. AfterType x) Never (Pairs 1) (λ _ x. AfterType x) Never (pairs_laws bounds.most 1) (λ s a i j d. d) (λ s a i j d. d) (λ a x h. h) (λ a at h. h) le))
       (then_laws (suc k) k (nested part.Expression) WholeRel (After stops_expression) (Tall n) (λ x. sign t.RightBracket (r.more_sizes place bounds nested k (b ++ x ∷ [])))
       (λ x. Word t.RightBracket (λ _. MoreRel (b ++ x ∷ []))) AfterSizes (TallSizes n)
-      (same_laws bounds.most (suc k) (nested part.Expression) WholeRel (After stops_expression) (Tall n) WholeRel (After stops_expression) (Tall n) whole (λ s a i j d. d) (λ s a i j d. d) (λ a x h. h) (λ a h. h) le)
+      (same_laws bounds.most (suc k) (nested part.Expression) WholeRel (After stops_expression) (Tall n) WholeRel (After stops_expression) (Tall n) whole (λ s a i j d. d) (λ s a i j d. d) (λ a x h. h) (λ a at h. h) le)
       (λ x. tok t.RightBracket refl (λ _. more_sizes_laws k (omega arith) (b ++ x ∷ [])))
       (λ s x m a j d last. closer _ t.RightBracket d.kind is_closer.1)
-      (λ s x m a j d h. more_grows s d.rest (tall.tall_end n b x (b ++ x ∷ []) refl h))
+      (λ s x m a j d at h. more_grows s d.rest (tall.tall_end n b x (b ++ x ∷ []) refl h))
       (λ s x i m j d h. strict s i m j d h))
       (λ s a i j d last. is_kind _ _ d.kind)
       (λ s a i j d last. other (among begins_unary) _ t.RightBracket unary_right_bracket (expression_begins place s d.first))))

@@ -1,6 +1,7 @@
--- A node is higher than its parts.
-use Rattle.std.proofs.Common.{◌≡◌, ℕ, suc, ◌≤◌, List, [], ◌∷◌, ◌++◌, map, refl, sym, ap, ◌∙◌, arith}
-use Rattle.std.specs.Prelude.{max}
+-- What is below a node stands one deeper in it.
+use Rattle.std.proofs.Common.{◌≡◌, ℕ, suc, ◌≤◌, List, [], ◌∷◌, ◌++◌, map, sym, ap, ◌∙◌, subst, arith, append_assoc, append-nil}
+use Rattle.std.specs.Prelude.{Contains}
+use Rattle.std.proofs.lemmas.List.Elements.{Contains-append_left, Contains-append_right}
 use Rattle.bj_core.specs.declared.types.Span.{Span}
 use Rattle.bj_tree.specs.declared.types.TypeTree.{TypeTree}
 use Rattle.bj_tree.specs.declared.expr.StepOp.{StepOp}
@@ -9,174 +10,114 @@ use Rattle.bj_tree.specs.declared.expr.BinaryOp.{BinaryOp}
 use Rattle.bj_tree.specs.declared.expr.AssignOp.{AssignOp}
 use Rattle.bj_tree.specs.declared.expr.ExprTree.{ExprTree}
 use Rattle.bj_tree.specs.declared.expr.ExprTree.TheVariants as tree
-use Rattle.bj_tree.specs.declared.expr.ExprTree.TheOpen.{ExprTree-F}
-use Rattle.bj_tree.specs.declared.expr.ExprTree.TheFolds.{fold-roll-ExprTree}
-use Rattle.bj_tree.specs.Size.{most, height_form, height_of}
+use Rattle.bj_expr.specs.Nodes.{all_beside, nodes_at, HasNode}
+use Rattle.bj_expr.proofs.NodeForms as forms
 
--- the height of a list is that of its highest
-abbrev pub list_height : List ExprTree → ℕ
-list_height xs = most (map height_of xs)
+-- where the nodes of some trees stand, by how many nodes are above them
+abbrev pub nodes_of : List ExprTree → ℕ → List Span
+nodes_of xs = all_beside (map nodes_at xs)
 
-most_end : (ns : List ℕ) (n : ℕ) → most (ns ++ n ∷ []) ≡ max (most ns) n
-most_end [] n = omega arith
-most_end (k ∷ ns) n = let h = most_end ns n in omega arith
+-- the same of a list as `HasNode` of a tree
+abbrev pub TallList : ℕ → Span → List ExprTree → Type 0
+TallList n p xs = (above : ℕ) × (n ≤ suc above) × Contains (nodes_of xs above) p
 
-map_end : (xs : List ExprTree) (x : ExprTree) → map height_of (xs ++ x ∷ []) ≡ map height_of xs ++ height_of x ∷ []
-map_end [] x = refl
-map_end (y ∷ xs) x = ap (λ (ns : List ℕ). height_of y ∷ ns) (map_end xs x)
+-- ---- lists
 
-pub height_end : (xs : List ExprTree) (x : ExprTree) → list_height (xs ++ x ∷ []) ≡ max (list_height xs) (height_of x)
-height_end xs x = ap most (map_end xs x) ∙ most_end (map height_of xs) (height_of x)
+-- what stands among the nodes of the last tree stands among those of all
+of_last : (xs : List ExprTree) (x : ExprTree) (above : ℕ) (p : Span) → Contains (nodes_at x above) p → Contains (nodes_of (xs ++ x ∷ []) above) p
+of_last [] x above p h = Contains-append_left (nodes_at x above) [] p h
+of_last (y ∷ xs) x above p h = Contains-append_right (nodes_at y above) (nodes_of (xs ++ x ∷ []) above) p (of_last xs x above p h)
 
-pub tall_one : (n : ℕ) (x : ExprTree) (b : List ExprTree) → b ≡ x ∷ [] → n ≤ height_of x → n ≤ list_height b
-tall_one n x b e h = let l = ap list_height e in let k : list_height (x ∷ []) ≡ max (height_of x) 0 = refl in omega arith
+append_of : (xs : List ExprTree) (x : ExprTree) (above : ℕ) → nodes_of (xs ++ x ∷ []) above ≡ nodes_of xs above ++ nodes_at x above
+append_of [] x above = append-nil (nodes_at x above)
+append_of (y ∷ xs) x above = ap (λ (ps : List Span). nodes_at y above ++ ps) (append_of xs x above) ∙ sym (append_assoc (nodes_at y above) (nodes_of xs above) (nodes_at x above))
 
-pub tall_end : (n : ℕ) (xs : List ExprTree) (x : ExprTree) (b : List ExprTree) → b ≡ xs ++ x ∷ [] → n ≤ height_of x → n ≤ list_height b
-tall_end n xs x b e h = let l = ap list_height e in let k = height_end xs x in omega arith
+of_first : (xs : List ExprTree) (x : ExprTree) (above : ℕ) (p : Span) → Contains (nodes_of xs above) p → Contains (nodes_of (xs ++ x ∷ []) above) p
+of_first xs x above p h = subst (λ (ps : List Span). Contains ps p) (sym (append_of xs x above)) (Contains-append_left (nodes_of xs above) (nodes_at x above) p h)
 
-pub tall_before : (n : ℕ) (xs : List ExprTree) (x : ExprTree) (b : List ExprTree) → b ≡ xs ++ x ∷ [] → n ≤ list_height xs → n ≤ list_height b
-tall_before n xs x b e h = let l = ap list_height e in let k = height_end xs x in omega arith
+pub tall_one : {p : Span} (n : ℕ) (x : ExprTree) (b : List ExprTree) → b ≡ x ∷ [] → HasNode n p x → TallList n p b
+tall_one {p} n x b e h = subst (TallList n p) (sym e) (h.0, h.1, of_last [] x h.0 p h.2)
 
-paren_height : (at : Span) (inner : ExprTree) → height_of (tree.Paren at inner) ≡ suc (height_of inner)
-unfolding height_of
-paren_height at inner = ap height_of (sym (tree.rolls-Paren at inner)) ∙ fold-roll-ExprTree ℕ height_form (ExprTree-F.Paren at inner)
+pub tall_end : {p : Span} (n : ℕ) (xs : List ExprTree) (x : ExprTree) (b : List ExprTree) → b ≡ xs ++ x ∷ [] → HasNode n p x → TallList n p b
+tall_end {p} n xs x b e h = subst (TallList n p) (sym e) (h.0, h.1, of_last xs x h.0 p h.2)
 
-pub tall_paren_inner : (n : ℕ) (at : Span) (inner : ExprTree) (b : ExprTree) → b ≡ tree.Paren at inner → n ≤ height_of inner → suc n ≤ height_of b
-tall_paren_inner n at inner b e h = let x = ap height_of e in let y = paren_height at inner in omega arith
+pub tall_before : {p : Span} (n : ℕ) (xs : List ExprTree) (x : ExprTree) (b : List ExprTree) → b ≡ xs ++ x ∷ [] → TallList n p xs → TallList n p b
+tall_before {p} n xs x b e h = subst (TallList n p) (sym e) (h.0, h.1, of_first xs x h.0 p h.2)
 
-field_height : (at : Span) (target : ExprTree) (name : List ℕ) → height_of (tree.Field at target name) ≡ suc (height_of target)
-unfolding height_of
-field_height at target name = ap height_of (sym (tree.rolls-Field at target name)) ∙ fold-roll-ExprTree ℕ height_form (ExprTree-F.Field at target name)
+-- ---- trees
 
-pub tall_field_target : (n : ℕ) (at : Span) (target : ExprTree) (name : List ℕ) (b : ExprTree) → b ≡ tree.Field at target name → n ≤ height_of target → suc n ≤ height_of b
-tall_field_target n at target name b e h = let x = ap height_of e in let y = field_height at target name in omega arith
+-- what stands in the list of nodes below a node stands one deeper in a tree
+below : {p : Span} (n above : ℕ) (ps : List Span) (t b : ExprTree) → b ≡ t → nodes_at t (suc above) ≡ ps → n ≤ suc above → Contains ps p → HasNode (suc n) p b
+below {p} n above ps t b e is deep h = subst (HasNode (suc n) p) (sym e) (suc above, omega arith, subst (λ (qs : List Span). Contains qs p) (sym is) h)
 
-call_height : (at : Span) (name : List ℕ) (args : List ExprTree) → height_of (tree.Call at name args) ≡ suc (list_height args)
-unfolding height_of
-call_height at name args = ap height_of (sym (tree.rolls-Call at name args)) ∙ fold-roll-ExprTree ℕ height_form (ExprTree-F.Call at name args)
+pub tall_paren_inner : {p : Span} (n : ℕ) (at : Span) (inner : ExprTree) (b : ExprTree) → b ≡ tree.Paren at inner → HasNode n p inner → HasNode (suc n) p b
+tall_paren_inner {p} n at inner b e h = below n h.0 (nodes_at inner h.0) (tree.Paren at inner) b e (forms.paren_below at inner h.0) h.1 h.2
 
-pub tall_call_args : (n : ℕ) (at : Span) (name : List ℕ) (args : List ExprTree) (b : ExprTree) → b ≡ tree.Call at name args → n ≤ list_height args → suc n ≤ height_of b
-tall_call_args n at name args b e h = let x = ap height_of e in let y = call_height at name args in omega arith
+pub tall_field_target : {p : Span} (n : ℕ) (at : Span) (target : ExprTree) (name : List ℕ) (b : ExprTree) → b ≡ tree.Field at target name → HasNode n p target → HasNode (suc n) p b
+tall_field_target {p} n at target name b e h = below n h.0 (nodes_at target h.0) (tree.Field at target name) b e (forms.field_below at target name h.0) h.1 h.2
 
-methodcall_height : (at : Span) (target : ExprTree) (name : List ℕ) (args : List ExprTree) → height_of (tree.MethodCall at target name args) ≡ suc (max (height_of target) (list_height args))
-unfolding height_of
-methodcall_height at target name args = ap height_of (sym (tree.rolls-MethodCall at target name args)) ∙ fold-roll-ExprTree ℕ height_form (ExprTree-F.MethodCall at target name args)
+pub tall_call_args : {p : Span} (n : ℕ) (at : Span) (name : List ℕ) (args : List ExprTree) (b : ExprTree) → b ≡ tree.Call at name args → TallList n p args → HasNode (suc n) p b
+tall_call_args {p} n at name args b e h = below n h.0 (nodes_of args h.0) (tree.Call at name args) b e (forms.call_below at name args h.0) h.1 h.2
 
-pub tall_methodcall_target : (n : ℕ) (at : Span) (target : ExprTree) (name : List ℕ) (args : List ExprTree) (b : ExprTree) → b ≡ tree.MethodCall at target name args → n ≤ height_of target → suc n ≤ height_of b
-tall_methodcall_target n at target name args b e h = let x = ap height_of e in let y = methodcall_height at target name args in omega arith
+pub tall_methodcall_target : {p : Span} (n : ℕ) (at : Span) (target : ExprTree) (name : List ℕ) (args : List ExprTree) (b : ExprTree) → b ≡ tree.MethodCall at target name args → HasNode n p target → HasNode (suc n) p b
+tall_methodcall_target {p} n at target name args b e h = below n h.0 (nodes_at target h.0 ++ nodes_of args h.0) (tree.MethodCall at target name args) b e (forms.methodcall_below at target name args h.0) h.1 (Contains-append_left (nodes_at target h.0) (nodes_of args h.0) p h.2)
 
-pub tall_methodcall_args : (n : ℕ) (at : Span) (target : ExprTree) (name : List ℕ) (args : List ExprTree) (b : ExprTree) → b ≡ tree.MethodCall at target name args → n ≤ list_height args → suc n ≤ height_of b
-tall_methodcall_args n at target name args b e h = let x = ap height_of e in let y = methodcall_height at target name args in omega arith
+pub tall_methodcall_args : {p : Span} (n : ℕ) (at : Span) (target : ExprTree) (name : List ℕ) (args : List ExprTree) (b : ExprTree) → b ≡ tree.MethodCall at target name args → TallList n p args → HasNode (suc n) p b
+tall_methodcall_args {p} n at target name args b e h = below n h.0 (nodes_at target h.0 ++ nodes_of args h.0) (tree.MethodCall at target name args) b e (forms.methodcall_below at target name args h.0) h.1 (Contains-append_right (nodes_at target h.0) (nodes_of args h.0) p h.2)
 
-supercall_height : (at : Span) (name : List ℕ) (args : List ExprTree) → height_of (tree.SuperCall at name args) ≡ suc (list_height args)
-unfolding height_of
-supercall_height at name args = ap height_of (sym (tree.rolls-SuperCall at name args)) ∙ fold-roll-ExprTree ℕ height_form (ExprTree-F.SuperCall at name args)
+pub tall_supercall_args : {p : Span} (n : ℕ) (at : Span) (name : List ℕ) (args : List ExprTree) (b : ExprTree) → b ≡ tree.SuperCall at name args → TallList n p args → HasNode (suc n) p b
+tall_supercall_args {p} n at name args b e h = below n h.0 (nodes_of args h.0) (tree.SuperCall at name args) b e (forms.supercall_below at name args h.0) h.1 h.2
 
-pub tall_supercall_args : (n : ℕ) (at : Span) (name : List ℕ) (args : List ExprTree) (b : ExprTree) → b ≡ tree.SuperCall at name args → n ≤ list_height args → suc n ≤ height_of b
-tall_supercall_args n at name args b e h = let x = ap height_of e in let y = supercall_height at name args in omega arith
+pub tall_index_array : {p : Span} (n : ℕ) (at : Span) (array : ExprTree) (index : ExprTree) (b : ExprTree) → b ≡ tree.Index at array index → HasNode n p array → HasNode (suc n) p b
+tall_index_array {p} n at array index b e h = below n h.0 (nodes_at array h.0 ++ nodes_at index h.0) (tree.Index at array index) b e (forms.index_below at array index h.0) h.1 (Contains-append_left (nodes_at array h.0) (nodes_at index h.0) p h.2)
 
-index_height : (at : Span) (array : ExprTree) (index : ExprTree) → height_of (tree.Index at array index) ≡ suc (max (height_of array) (height_of index))
-unfolding height_of
-index_height at array index = ap height_of (sym (tree.rolls-Index at array index)) ∙ fold-roll-ExprTree ℕ height_form (ExprTree-F.Index at array index)
+pub tall_index_index : {p : Span} (n : ℕ) (at : Span) (array : ExprTree) (index : ExprTree) (b : ExprTree) → b ≡ tree.Index at array index → HasNode n p index → HasNode (suc n) p b
+tall_index_index {p} n at array index b e h = below n h.0 (nodes_at array h.0 ++ nodes_at index h.0) (tree.Index at array index) b e (forms.index_below at array index h.0) h.1 (Contains-append_right (nodes_at array h.0) (nodes_at index h.0) p h.2)
 
-pub tall_index_array : (n : ℕ) (at : Span) (array : ExprTree) (index : ExprTree) (b : ExprTree) → b ≡ tree.Index at array index → n ≤ height_of array → suc n ≤ height_of b
-tall_index_array n at array index b e h = let x = ap height_of e in let y = index_height at array index in omega arith
+pub tall_new_args : {p : Span} (n : ℕ) (at : Span) (class : List ℕ) (args : List ExprTree) (b : ExprTree) → b ≡ tree.New at class args → TallList n p args → HasNode (suc n) p b
+tall_new_args {p} n at class args b e h = below n h.0 (nodes_of args h.0) (tree.New at class args) b e (forms.new_below at class args h.0) h.1 h.2
 
-pub tall_index_index : (n : ℕ) (at : Span) (array : ExprTree) (index : ExprTree) (b : ExprTree) → b ≡ tree.Index at array index → n ≤ height_of index → suc n ≤ height_of b
-tall_index_index n at array index b e h = let x = ap height_of e in let y = index_height at array index in omega arith
+pub tall_newarray_sizes : {p : Span} (n : ℕ) (at : Span) (holds : TypeTree) (sizes : List ExprTree) (dims : ℕ) (b : ExprTree) → b ≡ tree.NewArray at holds sizes dims → TallList n p sizes → HasNode (suc n) p b
+tall_newarray_sizes {p} n at holds sizes dims b e h = below n h.0 (nodes_of sizes h.0) (tree.NewArray at holds sizes dims) b e (forms.newarray_below at holds sizes dims h.0) h.1 h.2
 
-new_height : (at : Span) (class : List ℕ) (args : List ExprTree) → height_of (tree.New at class args) ≡ suc (list_height args)
-unfolding height_of
-new_height at class args = ap height_of (sym (tree.rolls-New at class args)) ∙ fold-roll-ExprTree ℕ height_form (ExprTree-F.New at class args)
+pub tall_newvalues_values : {p : Span} (n : ℕ) (at : Span) (holds : TypeTree) (values : List ExprTree) (b : ExprTree) → b ≡ tree.NewValues at holds values → TallList n p values → HasNode (suc n) p b
+tall_newvalues_values {p} n at holds values b e h = below n h.0 (nodes_of values h.0) (tree.NewValues at holds values) b e (forms.newvalues_below at holds values h.0) h.1 h.2
 
-pub tall_new_args : (n : ℕ) (at : Span) (class : List ℕ) (args : List ExprTree) (b : ExprTree) → b ≡ tree.New at class args → n ≤ list_height args → suc n ≤ height_of b
-tall_new_args n at class args b e h = let x = ap height_of e in let y = new_height at class args in omega arith
+pub tall_braces_values : {p : Span} (n : ℕ) (at : Span) (values : List ExprTree) (b : ExprTree) → b ≡ tree.Braces at values → TallList n p values → HasNode (suc n) p b
+tall_braces_values {p} n at values b e h = below n h.0 (nodes_of values h.0) (tree.Braces at values) b e (forms.braces_below at values h.0) h.1 h.2
 
-newarray_height : (at : Span) (holds : TypeTree) (sizes : List ExprTree) (dims : ℕ) → height_of (tree.NewArray at holds sizes dims) ≡ suc (list_height sizes)
-unfolding height_of
-newarray_height at holds sizes dims = ap height_of (sym (tree.rolls-NewArray at holds sizes dims)) ∙ fold-roll-ExprTree ℕ height_form (ExprTree-F.NewArray at holds sizes dims)
+pub tall_postfix_operand : {p : Span} (n : ℕ) (at : Span) (op : StepOp) (operand : ExprTree) (b : ExprTree) → b ≡ tree.Postfix at op operand → HasNode n p operand → HasNode (suc n) p b
+tall_postfix_operand {p} n at op operand b e h = below n h.0 (nodes_at operand h.0) (tree.Postfix at op operand) b e (forms.postfix_below at op operand h.0) h.1 h.2
 
-pub tall_newarray_sizes : (n : ℕ) (at : Span) (holds : TypeTree) (sizes : List ExprTree) (dims : ℕ) (b : ExprTree) → b ≡ tree.NewArray at holds sizes dims → n ≤ list_height sizes → suc n ≤ height_of b
-tall_newarray_sizes n at holds sizes dims b e h = let x = ap height_of e in let y = newarray_height at holds sizes dims in omega arith
+pub tall_prefix_operand : {p : Span} (n : ℕ) (at : Span) (op : StepOp) (operand : ExprTree) (b : ExprTree) → b ≡ tree.Prefix at op operand → HasNode n p operand → HasNode (suc n) p b
+tall_prefix_operand {p} n at op operand b e h = below n h.0 (nodes_at operand h.0) (tree.Prefix at op operand) b e (forms.prefix_below at op operand h.0) h.1 h.2
 
-newvalues_height : (at : Span) (holds : TypeTree) (values : List ExprTree) → height_of (tree.NewValues at holds values) ≡ suc (list_height values)
-unfolding height_of
-newvalues_height at holds values = ap height_of (sym (tree.rolls-NewValues at holds values)) ∙ fold-roll-ExprTree ℕ height_form (ExprTree-F.NewValues at holds values)
+pub tall_unary_operand : {p : Span} (n : ℕ) (at : Span) (op : UnaryOp) (operand : ExprTree) (b : ExprTree) → b ≡ tree.Unary at op operand → HasNode n p operand → HasNode (suc n) p b
+tall_unary_operand {p} n at op operand b e h = below n h.0 (nodes_at operand h.0) (tree.Unary at op operand) b e (forms.unary_below at op operand h.0) h.1 h.2
 
-pub tall_newvalues_values : (n : ℕ) (at : Span) (holds : TypeTree) (values : List ExprTree) (b : ExprTree) → b ≡ tree.NewValues at holds values → n ≤ list_height values → suc n ≤ height_of b
-tall_newvalues_values n at holds values b e h = let x = ap height_of e in let y = newvalues_height at holds values in omega arith
+pub tall_cast_operand : {p : Span} (n : ℕ) (at : Span) (to : TypeTree) (operand : ExprTree) (b : ExprTree) → b ≡ tree.Cast at to operand → HasNode n p operand → HasNode (suc n) p b
+tall_cast_operand {p} n at to operand b e h = below n h.0 (nodes_at operand h.0) (tree.Cast at to operand) b e (forms.cast_below at to operand h.0) h.1 h.2
 
-braces_height : (at : Span) (values : List ExprTree) → height_of (tree.Braces at values) ≡ suc (list_height values)
-unfolding height_of
-braces_height at values = ap height_of (sym (tree.rolls-Braces at values)) ∙ fold-roll-ExprTree ℕ height_form (ExprTree-F.Braces at values)
+pub tall_binary_left : {p : Span} (n : ℕ) (at : Span) (op : BinaryOp) (left : ExprTree) (right : ExprTree) (b : ExprTree) → b ≡ tree.Binary at op left right → HasNode n p left → HasNode (suc n) p b
+tall_binary_left {p} n at op left right b e h = below n h.0 (nodes_at left h.0 ++ nodes_at right h.0) (tree.Binary at op left right) b e (forms.binary_below at op left right h.0) h.1 (Contains-append_left (nodes_at left h.0) (nodes_at right h.0) p h.2)
 
-pub tall_braces_values : (n : ℕ) (at : Span) (values : List ExprTree) (b : ExprTree) → b ≡ tree.Braces at values → n ≤ list_height values → suc n ≤ height_of b
-tall_braces_values n at values b e h = let x = ap height_of e in let y = braces_height at values in omega arith
+pub tall_binary_right : {p : Span} (n : ℕ) (at : Span) (op : BinaryOp) (left : ExprTree) (right : ExprTree) (b : ExprTree) → b ≡ tree.Binary at op left right → HasNode n p right → HasNode (suc n) p b
+tall_binary_right {p} n at op left right b e h = below n h.0 (nodes_at left h.0 ++ nodes_at right h.0) (tree.Binary at op left right) b e (forms.binary_below at op left right h.0) h.1 (Contains-append_right (nodes_at left h.0) (nodes_at right h.0) p h.2)
 
-postfix_height : (at : Span) (op : StepOp) (operand : ExprTree) → height_of (tree.Postfix at op operand) ≡ suc (height_of operand)
-unfolding height_of
-postfix_height at op operand = ap height_of (sym (tree.rolls-Postfix at op operand)) ∙ fold-roll-ExprTree ℕ height_form (ExprTree-F.Postfix at op operand)
+pub tall_instanceof_value : {p : Span} (n : ℕ) (at : Span) (value : ExprTree) (holds : TypeTree) (b : ExprTree) → b ≡ tree.InstanceOf at value holds → HasNode n p value → HasNode (suc n) p b
+tall_instanceof_value {p} n at value holds b e h = below n h.0 (nodes_at value h.0) (tree.InstanceOf at value holds) b e (forms.instanceof_below at value holds h.0) h.1 h.2
 
-pub tall_postfix_operand : (n : ℕ) (at : Span) (op : StepOp) (operand : ExprTree) (b : ExprTree) → b ≡ tree.Postfix at op operand → n ≤ height_of operand → suc n ≤ height_of b
-tall_postfix_operand n at op operand b e h = let x = ap height_of e in let y = postfix_height at op operand in omega arith
+pub tall_conditional_test : {p : Span} (n : ℕ) (at : Span) (test : ExprTree) (chosen : ExprTree) (other : ExprTree) (b : ExprTree) → b ≡ tree.Conditional at test chosen other → HasNode n p test → HasNode (suc n) p b
+tall_conditional_test {p} n at test chosen other b e h = below n h.0 (nodes_at test h.0 ++ (nodes_at chosen h.0 ++ nodes_at other h.0)) (tree.Conditional at test chosen other) b e (forms.conditional_below at test chosen other h.0) h.1 (Contains-append_left (nodes_at test h.0) (nodes_at chosen h.0 ++ nodes_at other h.0) p h.2)
 
-prefix_height : (at : Span) (op : StepOp) (operand : ExprTree) → height_of (tree.Prefix at op operand) ≡ suc (height_of operand)
-unfolding height_of
-prefix_height at op operand = ap height_of (sym (tree.rolls-Prefix at op operand)) ∙ fold-roll-ExprTree ℕ height_form (ExprTree-F.Prefix at op operand)
+pub tall_conditional_chosen : {p : Span} (n : ℕ) (at : Span) (test : ExprTree) (chosen : ExprTree) (other : ExprTree) (b : ExprTree) → b ≡ tree.Conditional at test chosen other → HasNode n p chosen → HasNode (suc n) p b
+tall_conditional_chosen {p} n at test chosen other b e h = below n h.0 (nodes_at test h.0 ++ (nodes_at chosen h.0 ++ nodes_at other h.0)) (tree.Conditional at test chosen other) b e (forms.conditional_below at test chosen other h.0) h.1 (Contains-append_right (nodes_at test h.0) (nodes_at chosen h.0 ++ nodes_at other h.0) p (Contains-append_left (nodes_at chosen h.0) (nodes_at other h.0) p h.2))
 
-pub tall_prefix_operand : (n : ℕ) (at : Span) (op : StepOp) (operand : ExprTree) (b : ExprTree) → b ≡ tree.Prefix at op operand → n ≤ height_of operand → suc n ≤ height_of b
-tall_prefix_operand n at op operand b e h = let x = ap height_of e in let y = prefix_height at op operand in omega arith
+pub tall_conditional_other : {p : Span} (n : ℕ) (at : Span) (test : ExprTree) (chosen : ExprTree) (other : ExprTree) (b : ExprTree) → b ≡ tree.Conditional at test chosen other → HasNode n p other → HasNode (suc n) p b
+tall_conditional_other {p} n at test chosen other b e h = below n h.0 (nodes_at test h.0 ++ (nodes_at chosen h.0 ++ nodes_at other h.0)) (tree.Conditional at test chosen other) b e (forms.conditional_below at test chosen other h.0) h.1 (Contains-append_right (nodes_at test h.0) (nodes_at chosen h.0 ++ nodes_at other h.0) p (Contains-append_right (nodes_at chosen h.0) (nodes_at other h.0) p h.2))
 
-unary_height : (at : Span) (op : UnaryOp) (operand : ExprTree) → height_of (tree.Unary at op operand) ≡ suc (height_of operand)
-unfolding height_of
-unary_height at op operand = ap height_of (sym (tree.rolls-Unary at op operand)) ∙ fold-roll-ExprTree ℕ height_form (ExprTree-F.Unary at op operand)
+pub tall_assign_target : {p : Span} (n : ℕ) (at : Span) (op : AssignOp) (target : ExprTree) (value : ExprTree) (b : ExprTree) → b ≡ tree.Assign at op target value → HasNode n p target → HasNode (suc n) p b
+tall_assign_target {p} n at op target value b e h = below n h.0 (nodes_at target h.0 ++ nodes_at value h.0) (tree.Assign at op target value) b e (forms.assign_below at op target value h.0) h.1 (Contains-append_left (nodes_at target h.0) (nodes_at value h.0) p h.2)
 
-pub tall_unary_operand : (n : ℕ) (at : Span) (op : UnaryOp) (operand : ExprTree) (b : ExprTree) → b ≡ tree.Unary at op operand → n ≤ height_of operand → suc n ≤ height_of b
-tall_unary_operand n at op operand b e h = let x = ap height_of e in let y = unary_height at op operand in omega arith
-
-cast_height : (at : Span) (to : TypeTree) (operand : ExprTree) → height_of (tree.Cast at to operand) ≡ suc (height_of operand)
-unfolding height_of
-cast_height at to operand = ap height_of (sym (tree.rolls-Cast at to operand)) ∙ fold-roll-ExprTree ℕ height_form (ExprTree-F.Cast at to operand)
-
-pub tall_cast_operand : (n : ℕ) (at : Span) (to : TypeTree) (operand : ExprTree) (b : ExprTree) → b ≡ tree.Cast at to operand → n ≤ height_of operand → suc n ≤ height_of b
-tall_cast_operand n at to operand b e h = let x = ap height_of e in let y = cast_height at to operand in omega arith
-
-binary_height : (at : Span) (op : BinaryOp) (left : ExprTree) (right : ExprTree) → height_of (tree.Binary at op left right) ≡ suc (max (height_of left) (height_of right))
-unfolding height_of
-binary_height at op left right = ap height_of (sym (tree.rolls-Binary at op left right)) ∙ fold-roll-ExprTree ℕ height_form (ExprTree-F.Binary at op left right)
-
-pub tall_binary_left : (n : ℕ) (at : Span) (op : BinaryOp) (left : ExprTree) (right : ExprTree) (b : ExprTree) → b ≡ tree.Binary at op left right → n ≤ height_of left → suc n ≤ height_of b
-tall_binary_left n at op left right b e h = let x = ap height_of e in let y = binary_height at op left right in omega arith
-
-pub tall_binary_right : (n : ℕ) (at : Span) (op : BinaryOp) (left : ExprTree) (right : ExprTree) (b : ExprTree) → b ≡ tree.Binary at op left right → n ≤ height_of right → suc n ≤ height_of b
-tall_binary_right n at op left right b e h = let x = ap height_of e in let y = binary_height at op left right in omega arith
-
-instanceof_height : (at : Span) (value : ExprTree) (holds : TypeTree) → height_of (tree.InstanceOf at value holds) ≡ suc (height_of value)
-unfolding height_of
-instanceof_height at value holds = ap height_of (sym (tree.rolls-InstanceOf at value holds)) ∙ fold-roll-ExprTree ℕ height_form (ExprTree-F.InstanceOf at value holds)
-
-pub tall_instanceof_value : (n : ℕ) (at : Span) (value : ExprTree) (holds : TypeTree) (b : ExprTree) → b ≡ tree.InstanceOf at value holds → n ≤ height_of value → suc n ≤ height_of b
-tall_instanceof_value n at value holds b e h = let x = ap height_of e in let y = instanceof_height at value holds in omega arith
-
-conditional_height : (at : Span) (test : ExprTree) (chosen : ExprTree) (other : ExprTree) → height_of (tree.Conditional at test chosen other) ≡ suc (max (height_of test) (max (height_of chosen) (height_of other)))
-unfolding height_of
-conditional_height at test chosen other = ap height_of (sym (tree.rolls-Conditional at test chosen other)) ∙ fold-roll-ExprTree ℕ height_form (ExprTree-F.Conditional at test chosen other)
-
-pub tall_conditional_test : (n : ℕ) (at : Span) (test : ExprTree) (chosen : ExprTree) (other : ExprTree) (b : ExprTree) → b ≡ tree.Conditional at test chosen other → n ≤ height_of test → suc n ≤ height_of b
-tall_conditional_test n at test chosen other b e h = let x = ap height_of e in let y = conditional_height at test chosen other in omega arith
-
-pub tall_conditional_chosen : (n : ℕ) (at : Span) (test : ExprTree) (chosen : ExprTree) (other : ExprTree) (b : ExprTree) → b ≡ tree.Conditional at test chosen other → n ≤ height_of chosen → suc n ≤ height_of b
-tall_conditional_chosen n at test chosen other b e h = let x = ap height_of e in let y = conditional_height at test chosen other in omega arith
-
-pub tall_conditional_other : (n : ℕ) (at : Span) (test : ExprTree) (chosen : ExprTree) (other : ExprTree) (b : ExprTree) → b ≡ tree.Conditional at test chosen other → n ≤ height_of other → suc n ≤ height_of b
-tall_conditional_other n at test chosen other b e h = let x = ap height_of e in let y = conditional_height at test chosen other in omega arith
-
-assign_height : (at : Span) (op : AssignOp) (target : ExprTree) (value : ExprTree) → height_of (tree.Assign at op target value) ≡ suc (max (height_of target) (height_of value))
-unfolding height_of
-assign_height at op target value = ap height_of (sym (tree.rolls-Assign at op target value)) ∙ fold-roll-ExprTree ℕ height_form (ExprTree-F.Assign at op target value)
-
-pub tall_assign_target : (n : ℕ) (at : Span) (op : AssignOp) (target : ExprTree) (value : ExprTree) (b : ExprTree) → b ≡ tree.Assign at op target value → n ≤ height_of target → suc n ≤ height_of b
-tall_assign_target n at op target value b e h = let x = ap height_of e in let y = assign_height at op target value in omega arith
-
-pub tall_assign_value : (n : ℕ) (at : Span) (op : AssignOp) (target : ExprTree) (value : ExprTree) (b : ExprTree) → b ≡ tree.Assign at op target value → n ≤ height_of value → suc n ≤ height_of b
-tall_assign_value n at op target value b e h = let x = ap height_of e in let y = assign_height at op target value in omega arith
+pub tall_assign_value : {p : Span} (n : ℕ) (at : Span) (op : AssignOp) (target : ExprTree) (value : ExprTree) (b : ExprTree) → b ≡ tree.Assign at op target value → HasNode n p value → HasNode (suc n) p b
+tall_assign_value {p} n at op target value b e h = below n h.0 (nodes_at target h.0 ++ nodes_at value h.0) (tree.Assign at op target value) b e (forms.assign_below at op target value h.0) h.1 (Contains-append_right (nodes_at target h.0) (nodes_at value h.0) p h.2)

@@ -35,7 +35,7 @@ unfolding r.pairs r.pair
 pairs_laws most n = renamed (Pairs n) (λ _ x. AfterType x)
     (loop_laws most (is t.LeftBracket) r.pair Pair (λ _ _. Unit {0}) Never
     (λ k. tok t.LeftBracket refl (λ _. tok t.RightBracket refl (λ _. pure_laws most (one_more k) (λ _ _. Unit {0}) Never)))
-    (λ s x a i j d. is_kind _ _ d.kind) (λ s x a i j d. let e = d.rest.rest.at in omega arith) (λ s x a i j d. tt) (λ s x a i j d h. h) most (le_refl most) n)
+    (λ s x a i j d. is_kind _ _ d.kind) (λ s x a i j d. let e = d.rest.rest.at in omega arith) (λ s x a i j d. tt) (λ s x a i j d at h. h) most (le_refl most) n)
     (λ s a i j d. d) (λ s a i j d. d) (λ a x e. (tt, e))
 
 abbrev DimsRel : Rel ℕ
@@ -71,7 +71,7 @@ module _ (place : ℕ → Span) (most : ℕ) where
   type_laws = renamed TypeRel (λ _ x. AfterType x)
       (start {D = NamedRel} (λ i. op {Q = λ v. Then DimsRel (λ n. Same (type_tree (place i) v n))} (among type_words) t.Word refl type_word.0 (tokens_of type_words type_word.1)
       (λ v. seq dims_laws (λ n. pure_laws most (type_tree (place i) v n) (λ _ x. AfterType x) Never)
-      (λ s n m b j d last. same_after AfterType s _ b m j d last) (λ s n m b j d h. h))))
+      (λ s n m b j d last. same_after AfterType s _ b m j d last) (λ s n m b j d at h. h))))
       to_type (λ s a i j d. from_type s d) (λ a x e. e)
 
 -- pairs of brackets begin with one, or there are none

@@ -20,11 +20,11 @@ use Rattle.bj_expr.specs.Grammar.{negations, negation_op, step_ops, step_op, lea
 use Rattle.bj_expr.specs.Reading as r
 use Rattle.bj_expr.specs.Reading.{is, begins_plain, is_cast, operand_part}
 use Rattle.bj_grammar.proofs.Terminals.{make, made}
-use Rattle.bj_grammar.proofs.Laws.{Rel, Laws, Then, Same, Word, Operator, Either, pure_laws, ahead_laws, is_kind, kind_is, seq, alt, tok, op, start, renamed, reaches}
+use Rattle.bj_grammar.proofs.Laws.{stop, reached_stop, Rel, Laws, Then, Same, Word, Operator, Either, pure_laws, ahead_laws, is_kind, kind_is, seq, alt, tok, op, start, renamed, reaches}
 use Rattle.bj_expr.proofs.Facts.{or_cases, or_left, or_right, stops_level, tokens_of}
 use Rattle.bj_expr.proofs.Begins.{plain_begins, unary_begins}
 use Rattle.bj_expr.proofs.Tall as tall
-use Rattle.bj_expr.proofs.LawLemmas.{same_after, Tall, After, PartRel, AfterPart, is_not, not_among}
+use Rattle.bj_expr.proofs.LawLemmas.{limited_then, same_after, Tall, After, PartRel, AfterPart, is_not, not_among}
 use Rattle.bj_expr.proofs.TypeLaws.{type_laws, dims_begin}
 use Rattle.bj_expr.proofs.SelectionLaws.{postfix_laws}
 use Rattle.bj_expr.proofs.CastLaws.{ended_other, Passes, seen, no_cast, negation_not}
@@ -32,7 +32,7 @@ use Rattle.bj_expr.proofs.UnaryFacts.{paren_other, other_ends, negation_one, ste
 
 -- ---- casts
 
-module _ (place : ℕ → Span) (bounds : Bounds) (n : ℕ) (small : n ≤ bounds.room) (nested : Part → Parser ExprTree)
+module _ (place : ℕ → Span) (bounds : Bounds) (n : ℕ) (small : n ≡ suc bounds.room) (nested : Part → Parser ExprTree)
     (u : (x : Part) → Laws bounds.most (nested x) (PartRel place x) (AfterPart x) (Tall n)) where
   abbrev After0 : ExprTree → Terminal → Type 0
   After0 = After (stops_level 0)
@@ -51,8 +51,8 @@ module _ (place : ℕ → Span) (bounds : Bounds) (n : ℕ) (small : n ≤ bound
   unfolding r.cast
   cast_laws i = tok t.LeftParen refl (λ _. seq (type_laws place bounds.most)
       (λ ty. tok t.RightParen refl (λ _. seq (operand_by (is_primitive ty)) (λ x. pure_laws bounds.most (tree.Cast (place i) ty x) After0 (Tall (suc n)))
-      (λ s x m b j d last. same_after (λ y. stops_level 0 y ≡ false) s (tree.Cast (place i) ty x) b m j d last) (λ s x m b j d h. tall.tall_cast_operand n (place i) ty x b d.tree h)))
-      (λ s ty m b j d last. is_not _ _ t.LeftBracket d.kind paren_other.0) (λ s ty m b j d h. absurd h))
+      (λ s x m b j d last. same_after (λ y. stops_level 0 y ≡ false) s (tree.Cast (place i) ty x) b m j d last) (λ s x m b j d at h. tall.tall_cast_operand n (place i) ty x b d.tree h)))
+      (λ s ty m b j d last. is_not _ _ t.LeftBracket d.kind paren_other.0) (λ s ty m b j d at h. absurd h))
 
   post_laws : Laws bounds.most (r.postfix place bounds nested) (λ s a i j. Postfix place s a i j) After0 (Tall (suc n))
   post_laws = postfix_laws place bounds n small nested u
@@ -161,14 +161,20 @@ module _ (place : ℕ → Span) (bounds : Bounds) (n : ℕ) (small : n ≤ bound
   operand = u part.Unary
 
   -- an operator before an operand, and what stands behind both
-  prefix_laws : (f : ExprTree → ExprTree) → ((x c : ExprTree) → c ≡ f x → Tall n x → Tall (suc n) c)
+  prefix_laws : (f : ExprTree → ExprTree) → ((at : Span) (x c : ExprTree) → c ≡ f x → Tall n at x → Tall (suc n) at c)
       → Laws bounds.most (nested part.Unary >>= λ x. pure (f x)) (Then (λ s a i j. Unary place s a i j) (λ x. Same (f x))) After0 (Tall (suc n))
   prefix_laws f high = seq operand (λ x. pure_laws bounds.most (f x) After0 (Tall (suc n)))
-      (λ s x m b j d last. same_after (λ y. stops_level 0 y ≡ false) s (f x) b m j d last) (λ s x m b j d h. high x b d.tree h)
+      (λ s x m b j d last. same_after (λ y. stops_level 0 y ≡ false) s (f x) b m j d last) (λ s x m b j d at h. high at x b d.tree h)
+
+  cast_stop : (i0 : ℕ) (s : Text) (i : ℕ) → i ≤ stop (r.cast place bounds nested i0 s i)
+  cast_stop i0 s i = let h = (cast_laws i0).onward s i in let k = reached_stop (r.cast place bounds nested i0 s i) in omega arith
+
+  post_stop : (s : Text) (i : ℕ) → i ≤ stop (r.postfix place bounds nested s i)
+  post_stop s i = let h = post_laws.onward s i in let k = reached_stop (r.postfix place bounds nested s i) in omega arith
 
   cast_or_post : (i : ℕ) → Laws bounds.most (ahead is_cast (r.cast place bounds nested i) (r.postfix place bounds nested)) (Either (CastRel i) (λ s a i j. Postfix place s a i j)) After0 (Tall (suc n))
   cast_or_post i = ahead_laws bounds.most is_cast (r.cast place bounds nested i) (r.postfix place bounds nested) (CastRel i) (λ s a i j. Postfix place s a i j) After0 (Tall (suc n)) (cast_laws i) post_laws
-      (λ s v m e. seen (r.cast place bounds nested i) (r.postfix place bounds nested) _ _ _ _ _ _ _ _ (cast_follows i) post_follows (cast_laws i).onward post_laws.onward s v m e)
+      (λ s v m e. seen (r.cast place bounds nested i) (r.postfix place bounds nested) _ _ _ _ _ _ _ _ (cast_follows i) post_follows (cast_stop i) post_stop s v m e)
       (λ s a m j d last. cast_first i s a m j d)
       (λ s a m j d last. no_cast place s a m j d last)
 
@@ -179,7 +185,7 @@ module _ (place : ℕ → Span) (bounds : Bounds) (n : ℕ) (small : n ≤ bound
   unfolding r.plain r.negation
   plain_laws = renamed (λ s a i j. Plain place s a i j) After0
       (start {D = PlainRel} (λ i. alt (among negations)
-      (op {Q = λ v. Then (λ s a i j. Unary place s a i j) (λ x. Same (tree.Unary (place i) (negation_op (terminal v)) x))} (among negations) t.Not refl negation_one.0 (tokens_of negations negation_one.1) (λ v. prefix_laws (tree.Unary (place i) (negation_op (terminal v))) (λ x c e h. tall.tall_unary_operand n (place i) (negation_op (terminal v)) x c e h)))
+      (op {Q = λ v. Then (λ s a i j. Unary place s a i j) (λ x. Same (tree.Unary (place i) (negation_op (terminal v)) x))} (among negations) t.Not refl negation_one.0 (tokens_of negations negation_one.1) (λ v. prefix_laws (tree.Unary (place i) (negation_op (terminal v))) (λ at x c e h. tall.tall_unary_operand n (place i) (negation_op (terminal v)) x c e h)))
       (cast_or_post i)
       (λ s a m j d last. d.kind)
       (λ s a m j d last. elim d [ inl x ↦ not_among negations _ _ x.kind negation_not | inr x ↦ post_begins_not s a m j x ])))
@@ -196,8 +202,10 @@ module _ (place : ℕ → Span) (bounds : Bounds) (n : ℕ) (small : n ≤ bound
   negative_laws i = alt (among leasts)
       (start {D = λ m. Operator (among leasts) (λ v. Same (tree.Unary (place i) unaries.Minus (tree.Literal (place m) (literal_kind (terminal v)) v.text)))}
       (λ m. op {Q = λ v. Same (tree.Unary (place i) unaries.Minus (tree.Literal (place m) (literal_kind (terminal v)) v.text))} (among leasts) t.LeastNumber refl least_one.0 (tokens_of leasts least_one.1)
-      (λ v. pure_laws bounds.most (tree.Unary (place i) unaries.Minus (tree.Literal (place m) (literal_kind (terminal v)) v.text)) After0 (Tall (suc n)))))
-      (prefix_laws (tree.Unary (place i) unaries.Minus) (λ x c e h. tall.tall_unary_operand n (place i) unaries.Minus x c e h))
+      (λ v. let x = tree.Literal (place m) (literal_kind (terminal v)) v.text in
+      limited_then bounds.most bounds.room n small (λ y. pure (tree.Unary (place i) unaries.Minus y)) x (pure_laws bounds.most (tree.Unary (place i) unaries.Minus x) After0 (Tall (suc n)))
+      (λ at h s a m j d. tall.tall_unary_operand n (place i) unaries.Minus x a d.tree h))))
+      (prefix_laws (tree.Unary (place i) unaries.Minus) (λ at x c e h. tall.tall_unary_operand n (place i) unaries.Minus x c e h))
       (λ s a m j d last. d.kind)
       (λ s a m j d last. unary_not_least _ (unary_begins place s d.first))
 
@@ -228,12 +236,12 @@ module _ (place : ℕ → Span) (bounds : Bounds) (n : ℕ) (small : n ≤ bound
 
   positive_laws : (i : ℕ) → Laws bounds.most (r.positive place bounds nested i) (PlusRel i) After0 (Tall (suc n))
   unfolding r.positive
-  positive_laws i = tok t.Plus refl (λ _. prefix_laws (tree.Unary (place i) unaries.Plus) (λ x c e h. tall.tall_unary_operand n (place i) unaries.Plus x c e h))
+  positive_laws i = tok t.Plus refl (λ _. prefix_laws (tree.Unary (place i) unaries.Plus) (λ at x c e h. tall.tall_unary_operand n (place i) unaries.Plus x c e h))
 
   prefixed_laws : (i : ℕ) → Laws bounds.most (r.prefixed place bounds nested i) (PrefixRel i) After0 (Tall (suc n))
   unfolding r.prefixed
   prefixed_laws i = op {Q = λ v. Then (λ s a i j. Unary place s a i j) (λ x. Same (tree.Prefix (place i) (step_op (terminal v)) x))} (among step_ops) t.Increment refl step_one.0 (tokens_of step_ops step_one.1)
-      (λ v. prefix_laws (tree.Prefix (place i) (step_op (terminal v))) (λ x c e h. tall.tall_prefix_operand n (place i) (step_op (terminal v)) x c e h))
+      (λ v. prefix_laws (tree.Prefix (place i) (step_op (terminal v))) (λ at x c e h. tall.tall_prefix_operand n (place i) (step_op (terminal v)) x c e h))
 
   no_plus : (i : ℕ) (s : Text) (a : ExprTree) (m j : ℕ) → Either (PrefixRel i) (λ s a i j. Plain place s a i j) s a m j → same_terminal (terminal (s m)) t.Plus ≡ false
   no_plus i s a m j (inl d) = (step_not_sign _ d.kind).0

@@ -8,7 +8,7 @@ use Rattle.bj_expr.specs.declared.part.Part.TheVariants as part
 use Rattle.bj_grammar.specs.declared.terminal.Terminal.{Terminal}
 use Rattle.bj_grammar.specs.declared.terminal.Terminal.TheVariants as t
 use Rattle.bj_grammar.specs.Terminal.{terminal, same_terminal, among}
-use Rattle.bj_grammar.specs.Reader.{Text, Parser}
+use Rattle.bj_grammar.specs.Reader.{nowhere, Text, Parser}
 use Rattle.bj_expr.specs.Grammar as g
 use Rattle.bj_expr.specs.Grammar.{Initializer, Initializers, Values}
 use Rattle.bj_expr.specs.Reading as r
@@ -18,8 +18,8 @@ use Rattle.bj_expr.proofs.Facts.{other, stops_expression}
 use Rattle.bj_expr.proofs.Begins.{initializer_begins, begins_initializer}
 use Rattle.bj_expr.proofs.ExprShape.{initializer_forward}
 use Rattle.bj_expr.proofs.Tall as tall
+use Rattle.bj_expr.proofs.Tall.{TallList}
 use Rattle.bj_expr.proofs.LawLemmas.{same_after, Tall, After, PartRel, AfterPart, is_not, closer, is_closer}
-use Rattle.bj_expr.proofs.ArgumentLaws.{TallList}
 
 begins_not : (among begins_initializer t.RightBrace ≡ false) × (among begins_initializer t.Comma ≡ false) × (same_terminal t.Comma t.RightBrace ≡ false) × (same_terminal t.RightBrace t.Comma ≡ false)
 unfolding same_terminal
@@ -85,9 +85,9 @@ module _ (place : ℕ → Span) (bounds : Bounds) (n : ℕ) (nested : Part → P
   from_more s (last_comma o e at) = inl (record { kind = o; rest = inl (record { tree = e; at = at }) })
   from_more s (one_more_value {x} {m} o d y) = inl (record { kind = o; rest = inr (record { part = x; at = m; first = d; rest = y }) })
 
-  more_grows : (s : Text) {b a : List ExprTree} {i j : ℕ} → MoreValues place s b a i j → TallList n b → TallList n a
-  more_grows s {b} {a} (no_more e at) h = subst (TallList n) (sym e) h
-  more_grows s (last_comma o e at) h = subst (TallList n) (sym e) h
+  more_grows : (s : Text) {b a : List ExprTree} {i j : ℕ} {p : Span} → MoreValues place s b a i j → TallList n p b → TallList n p a
+  more_grows s {p} (no_more e at) h = subst (TallList n p) (sym e) h
+  more_grows s {p} (last_comma o e at) h = subst (TallList n p) (sym e) h
   more_grows s {b} (one_more_value {x} o d y) h = more_grows s y (tall.tall_before n b x (b ++ x ∷ []) refl h)
 
   -- what stands behind an initializer may do so
@@ -105,7 +105,7 @@ module _ (place : ℕ → Span) (bounds : Bounds) (n : ℕ) (nested : Part → P
   more_values_laws : (k : ℕ) → k ≤ bounds.most → (b : List ExprTree) → Laws k (r.more_values place bounds nested k b) (MoreRel b) BeforeBrace (TallList n)
   unfolding r.more_values
   more_values_laws zero le b = renamed (MoreRel b) BeforeBrace
-      (alt {P = CommaRel b} (is t.Comma) (over_laws zero (CommaRel b) BeforeBrace (TallList n) (comma_shape b) (λ s a i j d. let h = (comma_shape b).forward s a i j d in inr (omega arith)))
+      (alt {P = CommaRel b} (is t.Comma) (over_laws zero (λ _. nowhere) (CommaRel b) BeforeBrace (TallList n) (comma_shape b) (λ s a i j d. let h = (comma_shape b).forward s a i j d in inr (omega arith)))
       (pure_laws zero b BeforeBrace (TallList n))
       (λ s a i j d last. is_kind _ _ d.kind) (λ s a i j d last. no_comma b s a i j d last))
       (λ s a i j d. to_more b s a i j d) (λ s a i j d. from_more s d) (λ a x e. e)
@@ -113,10 +113,10 @@ module _ (place : ℕ → Span) (bounds : Bounds) (n : ℕ) (nested : Part → P
       (alt {P = CommaRel b} (is t.Comma)
       (tok t.Comma refl (λ _. alt (is t.RightBrace) (pure_laws (suc k) b BeforeBrace (TallList n))
       (then_laws (suc k) k (nested part.Initializer) InitRel (After stops_expression) (Tall n) (λ x. r.more_values place bounds nested k (b ++ x ∷ [])) (λ x. MoreRel (b ++ x ∷ [])) BeforeBrace (TallList n)
-      (same_laws bounds.most (suc k) (nested part.Initializer) InitRel (After stops_expression) (Tall n) InitRel (After stops_expression) (Tall n) init_laws (λ s a i j d. d) (λ s a i j d. d) (λ a x h. h) (λ a h. h) le)
+      (same_laws bounds.most (suc k) (nested part.Initializer) InitRel (After stops_expression) (Tall n) InitRel (After stops_expression) (Tall n) init_laws (λ s a i j d. d) (λ s a i j d. d) (λ a x h. h) (λ a at h. h) le)
       (λ x. more_values_laws k (omega arith) (b ++ x ∷ []))
       (λ s x m a j d last. after_value s d last)
-      (λ s x m a j d h. more_grows s d (tall.tall_end n b x (b ++ x ∷ []) refl h))
+      (λ s x m a j d at h. more_grows s d (tall.tall_end n b x (b ++ x ∷ []) refl h))
       (λ s x i m j d h. strict s i m j d h))
       (λ s a i j d last. is_kind _ _ (same_after (λ x. x ≡ t.RightBrace) s b a i j d last))
       (λ s a i j d last. value_not s d.first)))
@@ -138,7 +138,7 @@ module _ (place : ℕ → Span) (bounds : Bounds) (n : ℕ) (nested : Part → P
       (alt (is t.Comma) (tok t.Comma refl (λ _. pure_laws bounds.most [] BeforeBrace (TallList n)))
       (seq init_laws (λ x. more_values_laws bounds.most (le_refl bounds.most) (x ∷ []))
       (λ s x m a j d last. after_value s d last)
-      (λ s x m a j d h. more_grows s d (tall.tall_one n x (x ∷ []) refl h)))
+      (λ s x m a j d at h. more_grows s d (tall.tall_one n x (x ∷ []) refl h)))
       (λ s a i j d last. is_kind _ _ d.kind)
       (λ s a i j d last. other (among begins_initializer) _ t.Comma begins_not.1 (initializer_begins place s d.first)))
       (λ s a i j d last. is_kind _ _ (same_after (λ x. x ≡ t.RightBrace) s [] a i j d last))
@@ -204,5 +204,5 @@ module _ (place : ℕ → Span) (bounds : Bounds) (n : ℕ) (nested : Part → P
   unfolding r.values
   values_laws E = renamed (λ s a i j. Values place s a i j) E
       (tok t.LeftBrace refl (λ _. seq inside_laws (λ all. tok t.RightBrace refl (λ _. pure_laws bounds.most all E (TallList n))) (λ s all m b j d last. d.kind)
-      (λ s all m b j d h. subst (TallList n) (sym d.rest.tree) h)))
+      (λ s all m b j d at h. subst (TallList n at) (sym d.rest.tree) h)))
       to_values (λ s a i j d. from_values s d) (λ a x e. e)

@@ -1,19 +1,19 @@
 -- The reader of expressions, as a function on texts.
-use Rattle.std.specs.Prelude.{ℕ, zero, suc, ◌-◌, Bool, true, false, ◌&&◌, ◌||◌, if◌then◌else◌, nat_lt, List, [], ◌∷◌, ◌++◌}
+use Rattle.std.specs.Prelude.{ℕ, zero, suc, Bool, true, false, ◌&&◌, ◌||◌, if◌then◌else◌, List, [], ◌∷◌, ◌++◌}
 use Rattle.bj_core.specs.declared.types.Span.{Span}
 use Rattle.bj_tree.specs.declared.types.TypeTree.{TypeTree}
 use Rattle.bj_tree.specs.declared.expr.UnaryOp.TheVariants as unaries
 use Rattle.bj_lex.specs.declared.token.Token.{Token}
 use Rattle.bj_tree.specs.declared.expr.ExprTree.{ExprTree, Binary', InstanceOf', Conditional', Assign'}
 use Rattle.bj_tree.specs.declared.expr.ExprTree.TheVariants as e
-use Rattle.bj_tree.specs.Size.{height_of}
 use Rattle.bj_expr.specs.declared.bounds.Bounds.{Bounds}
 use Rattle.bj_expr.specs.declared.part.Part.{Part}
 use Rattle.bj_expr.specs.declared.part.Part.TheVariants as part
 use Rattle.bj_grammar.specs.declared.terminal.Terminal.{Terminal}
 use Rattle.bj_grammar.specs.declared.terminal.Terminal.TheVariants as t
 use Rattle.bj_grammar.specs.Terminal.{terminal, same_terminal, among}
-use Rattle.bj_grammar.specs.Reader.{Text, Found, Over, Parser, ◌>>=◌, pure, over, here, operator, word, sign, ahead, choose, loop}
+use Rattle.bj_grammar.specs.Reader.{Text, Parser, ◌>>=◌, pure, over, unless_deep, nowhere, here, operator, word, sign, ahead, choose, loop}
+use Rattle.bj_expr.specs.Nodes.{nodes_at, first}
 use Rattle.bj_expr.specs.Grammar.{ops, is_relational, ranks, binary_op, assigns, assign_op, negations, negation_op, step_ops, step_op, literal_words, leasts, literal_kind, primitives, type_words, type_tree, is_new_array, one_more, is_primitive}
 
 abbrev pub is : Terminal → Terminal → Bool
@@ -48,9 +48,9 @@ is_unary _ = true
 abbrev pub operand_part : TypeTree → Part
 operand_part ty = if is_primitive ty then part.Unary else part.Plain
 
--- An operator takes no operand that is higher than there is room: the node over it would be so, too.
+-- An operand that a node will stand above, which has no node with so many above it.
 unfoldable pub limited : ℕ → ExprTree → Parser ExprTree
-limited room a = λ s i. if nat_lt room (height_of a) then Over (suc (suc (suc (suc i)))) else Found a i
+limited room a = unless_deep (first (nodes_at a room)) (pure a)
 
 -- a pair of brackets, after some
 unfoldable pub pair : ℕ → Parser ℕ
@@ -67,7 +67,7 @@ module _ (place : ℕ → Span) (most : ℕ) where
   unfoldable pub type_at : Parser TypeTree
   type_at = here (λ i. operator (among type_words) (λ v. dims >>= λ n. pure (type_tree (place i) v n)))
 
--- The rules, given where each token stands, the bounds, and the readers of nested parts.
+-- The rules, given where each token stands, the bounds, in which the room is that below the part, and the readers of nested parts.
 module _ (place : ℕ → Span) (bounds : Bounds) (nested : Part → Parser ExprTree) where
   unfoldable pub comma : List ExprTree → Parser (List ExprTree)
   comma b = sign t.Comma (nested part.Expression >>= λ x. pure (b ++ x ∷ []))
@@ -90,7 +90,7 @@ module _ (place : ℕ → Span) (bounds : Bounds) (nested : Part → Parser Expr
 
   -- the values behind some, up to the closing brace; a comma may stand before it
   unfoldable pub more_values : ℕ → List ExprTree → Parser (List ExprTree)
-  more_values zero b = choose (is t.Comma) over (pure b)
+  more_values zero b = choose (is t.Comma) (over (λ _. nowhere)) (pure b)
   more_values (suc n) b = choose (is t.Comma) (sign t.Comma (choose (is t.RightBrace) (pure b) (nested part.Initializer >>= λ x. more_values n (b ++ x ∷ [])))) (pure b)
 
   unfoldable pub inside_braces : Parser (List ExprTree)
@@ -104,7 +104,7 @@ module _ (place : ℕ → Span) (bounds : Bounds) (nested : Part → Parser Expr
 
   -- the sizes behind some, and how many pairs without a size follow them
   unfoldable pub more_sizes : ℕ → List ExprTree → Parser (List ExprTree × ℕ)
-  more_sizes zero b = choose (is t.LeftBracket) over (pure (b, 0))
+  more_sizes zero b = choose (is t.LeftBracket) (over (λ _. nowhere)) (pure (b, 0))
   more_sizes (suc n) b = choose (is t.LeftBracket) (sign t.LeftBracket (choose (is t.RightBracket) (sign t.RightBracket (pairs bounds.most 1 >>= λ d. pure (b, d)))
       (nested part.Expression >>= λ x. sign t.RightBracket (more_sizes n (b ++ x ∷ []))))) (pure (b, 0))
 
@@ -145,13 +145,13 @@ module _ (place : ℕ → Span) (bounds : Bounds) (nested : Part → Parser Expr
       (choose (is t.LeftParen) (parenthesized i) (choose (is t.Super) (by_super i) (choose (is t.New) (creation i) (by_name i))))))
 
   unfoldable pub member : ℕ → ExprTree → List ℕ → Parser ExprTree
-  member i x v = choose (is t.LeftParen) (arguments >>= λ all. limited bounds.room (e.MethodCall (place i) x v all)) (limited bounds.room (e.Field (place i) x v))
+  member i x v = choose (is t.LeftParen) (arguments >>= λ all. pure (e.MethodCall (place i) x v all)) (pure (e.Field (place i) x v))
 
   unfoldable pub element : ℕ → ExprTree → Parser ExprTree
-  element i x = sign t.LeftBracket (nested part.Expression >>= λ y. sign t.RightBracket (limited bounds.room (e.Index (place i) x y)))
+  element i x = sign t.LeftBracket (limited bounds.room x >>= λ x. nested part.Expression >>= λ y. sign t.RightBracket (pure (e.Index (place i) x y)))
 
   unfoldable pub dotted : ℕ → ExprTree → Parser ExprTree
-  dotted i x = sign t.Dot (word t.Word (member i x))
+  dotted i x = sign t.Dot (limited bounds.room x >>= λ x. word t.Word (member i x))
 
   -- the brackets behind a new array of given sizes are its own
   unfoldable pub selection : ℕ → ExprTree → Parser ExprTree
@@ -161,7 +161,7 @@ module _ (place : ℕ → Span) (bounds : Bounds) (nested : Part → Parser Expr
   selected = here (λ i. primary >>= loop bounds.most (among selectors) (selection i))
 
   unfoldable pub postfix_step : ℕ → ExprTree → Parser ExprTree
-  postfix_step i x = operator (among step_ops) (λ v. limited bounds.room (e.Postfix (place i) (step_op (terminal v)) x))
+  postfix_step i x = operator (among step_ops) (λ v. limited bounds.room x >>= λ x. pure (e.Postfix (place i) (step_op (terminal v)) x))
 
   unfoldable pub postfix : Parser ExprTree
   postfix = here (λ i. selected >>= loop bounds.most (among step_ops) (postfix_step i))
@@ -177,7 +177,7 @@ module _ (place : ℕ → Span) (bounds : Bounds) (nested : Part → Parser Expr
       (ahead is_cast (cast i) postfix))
 
   unfoldable pub least : ℕ → Parser ExprTree
-  least i = here (λ m. operator (among leasts) (λ v. pure (e.Unary (place i) unaries.Minus (e.Literal (place m) (literal_kind (terminal v)) v.text))))
+  least i = here (λ m. operator (among leasts) (λ v. limited bounds.room (e.Literal (place m) (literal_kind (terminal v)) v.text) >>= λ x. pure (e.Unary (place i) unaries.Minus x)))
 
   unfoldable pub negative : ℕ → Parser ExprTree
   negative i = choose (among leasts) (least i)
@@ -193,24 +193,24 @@ module _ (place : ℕ → Span) (bounds : Bounds) (nested : Part → Parser Expr
   unary = here (λ i. choose (is t.Minus) (sign t.Minus (negative i)) (choose (is t.Plus) (positive i) (choose (among step_ops) (prefixed i) plain)))
 
   -- an operator of the rank and its right operand, after a left one
-  unfoldable pub binary : Parser ExprTree → ℕ → ℕ → ExprTree → Parser ExprTree
-  binary operand h i l = operator (among (ops h)) (λ v. operand >>= λ r. limited bounds.room (e.Binary (place i) (binary_op (terminal v)) l r))
+  unfoldable pub binary : ℕ → ℕ → ExprTree → Parser ExprTree
+  binary h i l = operator (among (ops h)) (λ v. limited bounds.room l >>= λ l. nested (part.Operand h) >>= λ r. pure (e.Binary (place i) (binary_op (terminal v)) l r))
 
   unfoldable pub instance : ℕ → ExprTree → Parser ExprTree
-  instance i l = sign t.InstanceOf (type_at place bounds.most >>= λ ty. limited bounds.room (e.InstanceOf (place i) l ty))
+  instance i l = sign t.InstanceOf (limited bounds.room l >>= λ l. type_at place bounds.most >>= λ ty. pure (e.InstanceOf (place i) l ty))
 
-  unfoldable pub operation : Parser ExprTree → ℕ → ℕ → ExprTree → Parser ExprTree
-  operation operand h i l = if is_relational h then choose (is t.InstanceOf) (instance i l) (binary operand h i l) else binary operand h i l
+  unfoldable pub operation : ℕ → ℕ → ExprTree → Parser ExprTree
+  operation h i l = if is_relational h then choose (is t.InstanceOf) (instance i l) (binary h i l) else binary h i l
 
   unfoldable pub level : ℕ → Parser ExprTree
   level zero = unary
-  level (suc h) = here (λ i. level h >>= loop bounds.most (goes_on h) (operation (level h) h i))
+  level (suc h) = here (λ i. level h >>= loop bounds.most (goes_on h) (operation h i))
 
   unfoldable pub otherwise : ℕ → ExprTree → ExprTree → Parser ExprTree
   otherwise i x y = nested part.Conditional >>= λ z. pure (e.Conditional (place i) x y z)
 
   unfoldable pub alternatives : ℕ → ExprTree → Parser ExprTree
-  alternatives i x = sign t.Question (nested part.Expression >>= λ y. sign t.Colon (otherwise i x y))
+  alternatives i x = sign t.Question (limited bounds.room x >>= λ x. nested part.Expression >>= λ y. sign t.Colon (otherwise i x y))
 
   unfoldable pub chosen : ℕ → ExprTree → Parser ExprTree
   chosen i x = choose (is t.Question) (alternatives i x) (pure x)
@@ -219,7 +219,7 @@ module _ (place : ℕ → Span) (bounds : Bounds) (nested : Part → Parser Expr
   conditional = here (λ i. level ranks >>= chosen i)
 
   unfoldable pub assignment : ℕ → ExprTree → Parser ExprTree
-  assignment i l = operator (among assigns) (λ v. nested part.Expression >>= λ r. pure (e.Assign (place i) (assign_op (terminal v)) l r))
+  assignment i l = operator (among assigns) (λ v. limited bounds.room l >>= λ l. nested part.Expression >>= λ r. pure (e.Assign (place i) (assign_op (terminal v)) l r))
 
   unfoldable pub assigned : ℕ → ExprTree → Parser ExprTree
   assigned i l = if is_unary l then choose (among assigns) (assignment i l) (pure l) else pure l
@@ -233,15 +233,15 @@ module _ (place : ℕ → Span) (bounds : Bounds) (nested : Part → Parser Expr
   unfoldable pub rule : Part → Parser ExprTree
   rule part.Expression = expression
   rule part.Conditional = conditional
+  rule (part.Operand h) = level h
   rule part.Unary = unary
   rule part.Plain = plain
   rule part.Initializer = initializer
 
--- a part in which nested ones nest no deeper than the number says
-unfoldable pub nested : (ℕ → Span) → Bounds → ℕ → Part → Parser ExprTree
-nested place bounds zero x = over
-nested place bounds (suc n) x = rule place bounds (nested place bounds n) x
+abbrev pub bounds_of : ℕ → ℕ → Bounds
+bounds_of most room = record { most = most; room = room }
 
--- A part that is no higher than there is room. It is a node itself, so there is room for one less in it.
-unfoldable pub within : (ℕ → Span) → Bounds → Part → Parser ExprTree
-within place bounds x = rule place bounds (nested place bounds (bounds.room - 1)) x >>= limited bounds.room
+-- a part with no more nodes than there is room for on the way from its root to a node of it, both included
+unfoldable pub nested : (ℕ → Span) → ℕ → ℕ → Part → Parser ExprTree
+nested place most zero x = over place
+nested place most (suc room) x = rule place (bounds_of most room) (nested place most room) x

@@ -4,14 +4,12 @@ ghost use Rattle.bj_expr.specs.Given.{Nests, over_nested, commas_of};
 
 use crate::reader::Reader;
 use crate::{Bounds, Part};
-use bj_grammar::{Stop, Symbol, Terminal, sees, word};
+use bj_grammar::{Stop, Symbol, Terminal, out_of_turns, sees, word};
 use bj_tree::{ExprTree, ExprTrees};
 use sqlite_items::Items;
 use std::alloc::Global;
 
-impl<
-    F: Fn(Global, &[Symbol], Bounds, usize, usize, Part) -> Result<(ExprTree, usize), Stop>,
-> Reader<F> {
+impl<F: Fn(Global, &[Symbol], Bounds, usize, Part) -> Result<(ExprTree, usize), Stop>> Reader<F> {
     /// A comma and an expression, after others.
     #[tactic(auto, unfolding(crate::specs::Reading::comma))]
     pub(crate) fn comma(
@@ -20,8 +18,8 @@ impl<
         mut found: ExprTrees,
         at: usize,
     ) -> Result<(ExprTrees, usize), Stop>
-        requires { Nests self.now.bounds self.now.depth (F.pre self.now.nested) (F.post self.now.nested) }
-        ensures { Gives result (over_nested spec.comma tokens.now self.now.bounds self.now.depth found (text_of tokens.now) at) }
+        requires { Nests self.now.bounds (F.pre self.now.nested) (F.post self.now.nested) }
+        ensures { Gives result (over_nested spec.comma tokens.now self.now.bounds found (text_of tokens.now) at) }
     {
         let at = word(tokens, at, Terminal::Comma)?;
         let (next, at) = self.nest(tokens, at, Part::Expression)?;
@@ -36,8 +34,8 @@ impl<
         mut found: ExprTrees,
         mut at: usize,
     ) -> Result<(ExprTrees, usize), Stop>
-        requires { Nests self.now.bounds self.now.depth (F.pre self.now.nested) (F.post self.now.nested) }
-        ensures { Gives result (commas_of self.now.bounds self.now.depth tokens.now found (text_of tokens.now) at) }
+        requires { Nests self.now.bounds (F.pre self.now.nested) (F.post self.now.nested) }
+        ensures { Gives result (commas_of self.now.bounds tokens.now found (text_of tokens.now) at) }
     {
         for _turn in 0..self.bounds.most {
             if !sees(tokens, at, Terminal::Comma) {
@@ -46,7 +44,7 @@ impl<
             (found, at) = self.comma(tokens, found, at)?;
         }
         if sees(tokens, at, Terminal::Comma) {
-            return Err(Stop::Deep(at));
+            return Err(out_of_turns());
         }
         Ok((found, at))
     }
@@ -54,8 +52,8 @@ impl<
     /// Expressions with commas between them.
     #[tactic(auto, unfolding(crate::specs::Reading::exprs))]
     pub(crate) fn exprs(&self, tokens: &[Symbol], at: usize) -> Result<(ExprTrees, usize), Stop>
-        requires { Nests self.now.bounds self.now.depth (F.pre self.now.nested) (F.post self.now.nested) }
-        ensures { Gives result (over_nested spec.exprs tokens.now self.now.bounds self.now.depth (text_of tokens.now) at) }
+        requires { Nests self.now.bounds (F.pre self.now.nested) (F.post self.now.nested) }
+        ensures { Gives result (over_nested spec.exprs tokens.now self.now.bounds (text_of tokens.now) at) }
     {
         let (first, at) = self.nest(tokens, at, Part::Expression)?;
         let mut found = Items::new(self.alloc);
@@ -66,8 +64,8 @@ impl<
     /// Arguments, which may be none.
     #[tactic(auto, unfolding(crate::specs::Reading::args))]
     pub(crate) fn args(&self, tokens: &[Symbol], at: usize) -> Result<(ExprTrees, usize), Stop>
-        requires { Nests self.now.bounds self.now.depth (F.pre self.now.nested) (F.post self.now.nested) }
-        ensures { Gives result (over_nested spec.args tokens.now self.now.bounds self.now.depth (text_of tokens.now) at) }
+        requires { Nests self.now.bounds (F.pre self.now.nested) (F.post self.now.nested) }
+        ensures { Gives result (over_nested spec.args tokens.now self.now.bounds (text_of tokens.now) at) }
     {
         if sees(tokens, at, Terminal::RightParen) {
             return Ok((Items::new(self.alloc), at));
@@ -78,8 +76,8 @@ impl<
     /// Arguments in parentheses [JLS 15.12].
     #[tactic(auto, unfolding(crate::specs::Reading::arguments))]
     pub(crate) fn arguments(&self, tokens: &[Symbol], at: usize) -> Result<(ExprTrees, usize), Stop>
-        requires { Nests self.now.bounds self.now.depth (F.pre self.now.nested) (F.post self.now.nested) }
-        ensures { Gives result (over_nested spec.arguments tokens.now self.now.bounds self.now.depth (text_of tokens.now) at) }
+        requires { Nests self.now.bounds (F.pre self.now.nested) (F.post self.now.nested) }
+        ensures { Gives result (over_nested spec.arguments tokens.now self.now.bounds (text_of tokens.now) at) }
     {
         let at = word(tokens, at, Terminal::LeftParen)?;
         let (all, at) = self.args(tokens, at)?;

@@ -3,7 +3,6 @@
 pub struct Bounds {
     /// How many steps one loop may take; more than there are tokens is enough for each text.
     pub most: usize,
-    /// How many nodes may stand on the way from the part's root to a node of it, both included. It has 16 bits, since `height` tells
-    /// no heights past 4294967295 apart.
+    /// How many nodes may stand on the way from the part's root to a node of it, both included.
     pub room: u16,
 }

@@ -4,21 +4,19 @@ ghost use Rattle.bj_grammar.specs.declared.terminal.Terminal.TheVariants as t;
 ghost use Rattle.bj_expr.specs.declared.part.Part.TheVariants as part;
 ghost use Rattle.bj_expr.specs.Reading as spec;
 ghost use Rattle.bj_grammar.specs.Given.{text_of, place_of, Gives};
-ghost use Rattle.bj_expr.specs.Given.{Nests, over_nested};
+ghost use Rattle.bj_expr.specs.Given.{Nests, over_nested, part_of};
 
 use crate::reader::Reader;
 use crate::sets::type_word_at;
 use crate::types::{element_type, pairs};
 use crate::{Bounds, Part};
 use bj_core::JText;
-use bj_grammar::{Stop, Symbol, Terminal, place, sees, units, word};
+use bj_grammar::{Stop, Symbol, Terminal, out_of_turns, place, sees, units, word};
 use bj_tree::{ExprTree, ExprTrees};
 use sqlite_items::Items;
 use std::alloc::Global;
 
-impl<
-    F: Fn(Global, &[Symbol], Bounds, usize, usize, Part) -> Result<(ExprTree, usize), Stop>,
-> Reader<F> {
+impl<F: Fn(Global, &[Symbol], Bounds, usize, Part) -> Result<(ExprTree, usize), Stop>> Reader<F> {
     /// The values of a new array, whose type has so many pairs of brackets.
     #[tactic(auto, unfolding(crate::specs::Reading::valued))]
     pub(crate) fn valued(
@@ -29,8 +27,8 @@ impl<
         dims: u32,
         at: usize,
     ) -> Result<(ExprTree, usize), Stop>
-        requires { Nests self.now.bounds self.now.depth (F.pre self.now.nested) (F.post self.now.nested) }
-        ensures { Gives result (over_nested spec.valued tokens.now self.now.bounds self.now.depth start element (text_of tokens.now element) dims (text_of tokens.now) at) }
+        requires { Nests self.now.bounds (F.pre self.now.nested) (F.post self.now.nested) }
+        ensures { Gives result (over_nested spec.valued tokens.now self.now.bounds start element (text_of tokens.now element) dims (text_of tokens.now) at) }
     {
         let (values, at) = self.values(tokens, at)?;
         let of = element_type(self.alloc, tokens, element, dims)?;
@@ -49,8 +47,8 @@ impl<
         mut found: ExprTrees,
         mut at: usize,
     ) -> Result<((ExprTrees, u32), usize), Stop>
-        requires { Nests self.now.bounds self.now.depth (F.pre self.now.nested) (F.post self.now.nested) }
-        ensures { Gives result (over_nested spec.more_sizes tokens.now self.now.bounds self.now.depth self.now.bounds.most found (text_of tokens.now) at) }
+        requires { Nests self.now.bounds (F.pre self.now.nested) (F.post self.now.nested) }
+        ensures { Gives result (over_nested spec.more_sizes tokens.now self.now.bounds self.now.bounds.most found (text_of tokens.now) at) }
     {
         for _turn in 0..self.bounds.most {
             if !sees(tokens, at, Terminal::LeftBracket) {
@@ -63,7 +61,7 @@ impl<
             (found, at) = self.next_size(tokens, found, at)?;
         }
         if sees(tokens, at, Terminal::LeftBracket) {
-            return Err(Stop::Deep(at));
+            return Err(out_of_turns());
         }
         Ok(((found, 0), at))
     }
@@ -75,8 +73,8 @@ impl<
         mut found: ExprTrees,
         at: usize,
     ) -> Result<(ExprTrees, usize), Stop>
-        requires { Nests self.now.bounds self.now.depth (F.pre self.now.nested) (F.post self.now.nested) }
-        ensures { Gives result (and_then (spec.nested (place_of tokens.now) self.now.bounds self.now.depth part.Expression (text_of tokens.now) at) (λ x j. sign t.RightBracket (pure (found ++ x ∷ [])) (text_of tokens.now) j)) }
+        requires { Nests self.now.bounds (F.pre self.now.nested) (F.post self.now.nested) }
+        ensures { Gives result (and_then (part_of tokens.now self.now.bounds part.Expression (text_of tokens.now) at) (λ x j. sign t.RightBracket (pure (found ++ x ∷ [])) (text_of tokens.now) j)) }
     {
         let (next, at) = self.nest(tokens, at, Part::Expression)?;
         let at = word(tokens, at, Terminal::RightBracket)?;
@@ -91,7 +89,7 @@ impl<
         found: ExprTrees,
         at: usize,
     ) -> Result<((ExprTrees, u32), usize), Stop>
-        requires { Nests self.now.bounds self.now.depth (F.pre self.now.nested) (F.post self.now.nested) }
+        requires { Nests self.now.bounds (F.pre self.now.nested) (F.post self.now.nested) }
         ensures { Gives result (sign t.RightBracket (λ s i. and_then (spec.pairs self.now.bounds.most 1 s i) (λ d j. Found (found, d) j)) (text_of tokens.now) at) }
     {
         let at = word(tokens, at, Terminal::RightBracket)?;
@@ -108,8 +106,8 @@ impl<
         element: usize,
         at: usize,
     ) -> Result<(ExprTree, usize), Stop>
-        requires { Nests self.now.bounds self.now.depth (F.pre self.now.nested) (F.post self.now.nested) }
-        ensures { Gives result (over_nested spec.sized tokens.now self.now.bounds self.now.depth start element (text_of tokens.now element) (text_of tokens.now) at) }
+        requires { Nests self.now.bounds (F.pre self.now.nested) (F.post self.now.nested) }
+        ensures { Gives result (over_nested spec.sized tokens.now self.now.bounds start element (text_of tokens.now element) (text_of tokens.now) at) }
     {
         let (first, at) = self.nest(tokens, at, Part::Expression)?;
         let at = word(tokens, at, Terminal::RightBracket)?;
@@ -134,8 +132,8 @@ impl<
         element: usize,
         at: usize,
     ) -> Result<(ExprTree, usize), Stop>
-        requires { Nests self.now.bounds self.now.depth (F.pre self.now.nested) (F.post self.now.nested) }
-        ensures { Gives result (over_nested spec.unsized tokens.now self.now.bounds self.now.depth start element (text_of tokens.now element) (text_of tokens.now) at) }
+        requires { Nests self.now.bounds (F.pre self.now.nested) (F.post self.now.nested) }
+        ensures { Gives result (over_nested spec.unsized tokens.now self.now.bounds start element (text_of tokens.now element) (text_of tokens.now) at) }
     {
         let at = word(tokens, at, Terminal::RightBracket)?;
         let (dims, at) = pairs(tokens, self.bounds.most, 1, at)?;
@@ -151,8 +149,8 @@ impl<
         element: usize,
         at: usize,
     ) -> Result<(ExprTree, usize), Stop>
-        requires { Nests self.now.bounds self.now.depth (F.pre self.now.nested) (F.post self.now.nested) }
-        ensures { Gives result (over_nested spec.array tokens.now self.now.bounds self.now.depth start element (text_of tokens.now element) (text_of tokens.now) at) }
+        requires { Nests self.now.bounds (F.pre self.now.nested) (F.post self.now.nested) }
+        ensures { Gives result (over_nested spec.array tokens.now self.now.bounds start element (text_of tokens.now element) (text_of tokens.now) at) }
     {
         if sees(tokens, at, Terminal::LeftBrace) {
             return self.valued(tokens, start, element, 0, at);
@@ -173,8 +171,8 @@ impl<
         class: JText,
         at: usize,
     ) -> Result<(ExprTree, usize), Stop>
-        requires { Nests self.now.bounds self.now.depth (F.pre self.now.nested) (F.post self.now.nested) }
-        ensures { Gives result (over_nested spec.object tokens.now self.now.bounds self.now.depth start class (text_of tokens.now) at) }
+        requires { Nests self.now.bounds (F.pre self.now.nested) (F.post self.now.nested) }
+        ensures { Gives result (over_nested spec.object tokens.now self.now.bounds start class (text_of tokens.now) at) }
     {
         let (args, at) = self.arguments(tokens, at)?;
         let tree = ExprTree::New {
@@ -194,8 +192,8 @@ impl<
         element: usize,
         at: usize,
     ) -> Result<(ExprTree, usize), Stop>
-        requires { Nests self.now.bounds self.now.depth (F.pre self.now.nested) (F.post self.now.nested) }
-        ensures { Gives result (over_nested spec.created tokens.now self.now.bounds self.now.depth start element (text_of tokens.now element) (text_of tokens.now) at) }
+        requires { Nests self.now.bounds (F.pre self.now.nested) (F.post self.now.nested) }
+        ensures { Gives result (over_nested spec.created tokens.now self.now.bounds start element (text_of tokens.now element) (text_of tokens.now) at) }
     {
         if sees(tokens, element, Terminal::Word) {
             if sees(tokens, at, Terminal::LeftParen) {
@@ -215,8 +213,8 @@ impl<
         start: usize,
         at: usize,
     ) -> Result<(ExprTree, usize), Stop>
-        requires { Nests self.now.bounds self.now.depth (F.pre self.now.nested) (F.post self.now.nested) }
-        ensures { Gives result (over_nested spec.creation tokens.now self.now.bounds self.now.depth start (text_of tokens.now) at) }
+        requires { Nests self.now.bounds (F.pre self.now.nested) (F.post self.now.nested) }
+        ensures { Gives result (over_nested spec.creation tokens.now self.now.bounds start (text_of tokens.now) at) }
     {
         let element = word(tokens, at, Terminal::New)?;
         let (_, at) = type_word_at(tokens, element)?;

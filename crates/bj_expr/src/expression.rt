@@ -1,7 +1,11 @@
 ghost use Rattle.std.specs.Prelude.{◌≡◌, IfOk};
+ghost use Rattle.bj_grammar.specs.declared.terminal.Terminal.TheVariants as t;
+ghost use Rattle.bj_grammar.specs.Reader.{Found, and_then, sign};
+ghost use Rattle.bj_expr.specs.declared.part.Part.TheVariants as part;
+ghost use Rattle.bj_expr.specs.Grammar as grammar;
 ghost use Rattle.bj_expr.specs.Reading as spec;
 ghost use Rattle.bj_grammar.specs.Given.{text_of, place_of, Gives};
-ghost use Rattle.bj_expr.specs.Given.{Nests, over_nested};
+ghost use Rattle.bj_expr.specs.Given.{Nests, over_nested, part_of};
 ghost use Rattle.bj_tree.specs.declared.expr.ExprTree.TheVariants as trees;
 
 use crate::forms::is_unary;
@@ -39,9 +43,43 @@ fn conditional(
     })
 }
 
-impl<
-    F: Fn(Global, &[Symbol], Bounds, usize, usize, Part) -> Result<(ExprTree, usize), Stop>,
-> Reader<F> {
+/// A node of an assignment.
+fn assigning(
+    alloc: Global,
+    at: Span,
+    op: Terminal,
+    target: ExprTree,
+    value: ExprTree,
+) -> Result<ExprTree, AllocError>
+    ensures { IfOk result (λ tree. tree ≡ trees.Assign at (grammar.assign_op op) target value) }
+{
+    let target = Boxed::new(alloc, target)?;
+    let value = Boxed::new(alloc, value)?;
+    Ok(ExprTree::Assign {
+        at,
+        op: assign_op(op),
+        target,
+        value,
+    })
+}
+
+impl<F: Fn(Global, &[Symbol], Bounds, usize, Part) -> Result<(ExprTree, usize), Stop>> Reader<F> {
+    /// The two ways, after the question mark.
+    fn ways(
+        &self,
+        tokens: &[Symbol],
+        start: usize,
+        test: ExprTree,
+        at: usize,
+    ) -> Result<(ExprTree, usize), Stop>
+        requires { Nests self.now.bounds (F.pre self.now.nested) (F.post self.now.nested) }
+        ensures { Gives result (and_then (part_of tokens.now self.now.bounds part.Expression (text_of tokens.now) at) (λ y j. sign t.Colon (over_nested spec.otherwise tokens.now self.now.bounds start test y) (text_of tokens.now) j)) }
+    {
+        let (chosen, at) = self.nest(tokens, at, Part::Expression)?;
+        let at = word(tokens, at, Terminal::Colon)?;
+        self.otherwise(tokens, start, test, chosen, at)
+    }
+
     /// A question mark and the two ways of a conditional expression.
     #[tactic(auto, unfolding(crate::specs::Reading::alternatives))]
     pub(crate) fn alternatives(
@@ -51,13 +89,12 @@ impl<
         test: ExprTree,
         at: usize,
     ) -> Result<(ExprTree, usize), Stop>
-        requires { Nests self.now.bounds self.now.depth (F.pre self.now.nested) (F.post self.now.nested) }
-        ensures { Gives result (over_nested spec.alternatives tokens.now self.now.bounds self.now.depth start test (text_of tokens.now) at) }
+        requires { Nests self.now.bounds (F.pre self.now.nested) (F.post self.now.nested) }
+        ensures { Gives result (over_nested spec.alternatives tokens.now self.now.bounds start test (text_of tokens.now) at) }
     {
         let at = word(tokens, at, Terminal::Question)?;
-        let (chosen, at) = self.nest(tokens, at, Part::Expression)?;
-        let at = word(tokens, at, Terminal::Colon)?;
-        self.otherwise(tokens, start, test, chosen, at)
+        let (test, at) = self.limited(tokens, test, at)?;
+        self.ways(tokens, start, test, at)
     }
 
     /// The second way, after the colon.
@@ -70,8 +107,8 @@ impl<
         chosen: ExprTree,
         at: usize,
     ) -> Result<(ExprTree, usize), Stop>
-        requires { Nests self.now.bounds self.now.depth (F.pre self.now.nested) (F.post self.now.nested) }
-        ensures { Gives result (over_nested spec.otherwise tokens.now self.now.bounds self.now.depth start test chosen (text_of tokens.now) at) }
+        requires { Nests self.now.bounds (F.pre self.now.nested) (F.post self.now.nested) }
+        ensures { Gives result (over_nested spec.otherwise tokens.now self.now.bounds start test chosen (text_of tokens.now) at) }
     {
         let (other, at) = self.nest(tokens, at, Part::Conditional)?;
         let tree = conditional(self.alloc, place(tokens, start), test, chosen, other)?;
@@ -87,8 +124,8 @@ impl<
         test: ExprTree,
         at: usize,
     ) -> Result<(ExprTree, usize), Stop>
-        requires { Nests self.now.bounds self.now.depth (F.pre self.now.nested) (F.post self.now.nested) }
-        ensures { Gives result (over_nested spec.chosen tokens.now self.now.bounds self.now.depth start test (text_of tokens.now) at) }
+        requires { Nests self.now.bounds (F.pre self.now.nested) (F.post self.now.nested) }
+        ensures { Gives result (over_nested spec.chosen tokens.now self.now.bounds start test (text_of tokens.now) at) }
     {
         if sees(tokens, at, Terminal::Question) {
             return self.alternatives(tokens, start, test, at);
@@ -103,11 +140,28 @@ impl<
         tokens: &[Symbol],
         start: usize,
     ) -> Result<(ExprTree, usize), Stop>
-        requires { Nests self.now.bounds self.now.depth (F.pre self.now.nested) (F.post self.now.nested) }
-        ensures { Gives result (over_nested spec.conditional tokens.now self.now.bounds self.now.depth (text_of tokens.now) start) }
+        requires { Nests self.now.bounds (F.pre self.now.nested) (F.post self.now.nested) }
+        ensures { Gives result (over_nested spec.conditional tokens.now self.now.bounds (text_of tokens.now) start) }
     {
         let (test, at) = self.level(tokens, start, RANKS)?;
         self.chosen(tokens, start, test, at)
+    }
+
+    /// What is assigned, after the operator.
+    fn value(
+        &self,
+        tokens: &[Symbol],
+        start: usize,
+        op: Terminal,
+        target: ExprTree,
+        at: usize,
+    ) -> Result<(ExprTree, usize), Stop>
+        requires { Nests self.now.bounds (F.pre self.now.nested) (F.post self.now.nested) }
+        ensures { Gives result (and_then (part_of tokens.now self.now.bounds part.Expression (text_of tokens.now) at) (λ r j. Found (trees.Assign (place_of tokens.now start) (grammar.assign_op op) target r) j)) }
+    {
+        let (value, at) = self.nest(tokens, at, Part::Expression)?;
+        let tree = assigning(self.alloc, place(tokens, start), op, target, value)?;
+        Ok((tree, at))
     }
 
     /// An operator of assignment and what is assigned [JLS 15.26].
@@ -119,18 +173,12 @@ impl<
         target: ExprTree,
         at: usize,
     ) -> Result<(ExprTree, usize), Stop>
-        requires { Nests self.now.bounds self.now.depth (F.pre self.now.nested) (F.post self.now.nested) }
-        ensures { Gives result (over_nested spec.assignment tokens.now self.now.bounds self.now.depth start target (text_of tokens.now) at) }
+        requires { Nests self.now.bounds (F.pre self.now.nested) (F.post self.now.nested) }
+        ensures { Gives result (over_nested spec.assignment tokens.now self.now.bounds start target (text_of tokens.now) at) }
     {
         let (op, at) = assign_at(tokens, at)?;
-        let (value, at) = self.nest(tokens, at, Part::Expression)?;
-        let tree = ExprTree::Assign {
-            at: place(tokens, start),
-            op: assign_op(op),
-            target: Boxed::new(self.alloc, target)?,
-            value: Boxed::new(self.alloc, value)?,
-        };
-        Ok((tree, at))
+        let (target, at) = self.limited(tokens, target, at)?;
+        self.value(tokens, start, op, target, at)
     }
 
     /// An assignment, if the left side is unary and an operator of assignment comes next.
@@ -142,8 +190,8 @@ impl<
         target: ExprTree,
         at: usize,
     ) -> Result<(ExprTree, usize), Stop>
-        requires { Nests self.now.bounds self.now.depth (F.pre self.now.nested) (F.post self.now.nested) }
-        ensures { Gives result (over_nested spec.assigned tokens.now self.now.bounds self.now.depth start target (text_of tokens.now) at) }
+        requires { Nests self.now.bounds (F.pre self.now.nested) (F.post self.now.nested) }
+        ensures { Gives result (over_nested spec.assigned tokens.now self.now.bounds start target (text_of tokens.now) at) }
     {
         if is_unary(&target) {
             if is_assign(tokens, at) {
@@ -161,8 +209,8 @@ impl<
         tokens: &[Symbol],
         start: usize,
     ) -> Result<(ExprTree, usize), Stop>
-        requires { Nests self.now.bounds self.now.depth (F.pre self.now.nested) (F.post self.now.nested) }
-        ensures { Gives result (over_nested spec.expression tokens.now self.now.bounds self.now.depth (text_of tokens.now) start) }
+        requires { Nests self.now.bounds (F.pre self.now.nested) (F.post self.now.nested) }
+        ensures { Gives result (over_nested spec.expression tokens.now self.now.bounds (text_of tokens.now) start) }
     {
         let (left, at) = self.conditional(tokens, start)?;
         self.assigned(tokens, start, left, at)
@@ -175,8 +223,8 @@ impl<
         tokens: &[Symbol],
         start: usize,
     ) -> Result<(ExprTree, usize), Stop>
-        requires { Nests self.now.bounds self.now.depth (F.pre self.now.nested) (F.post self.now.nested) }
-        ensures { Gives result (over_nested spec.initializer tokens.now self.now.bounds self.now.depth (text_of tokens.now) start) }
+        requires { Nests self.now.bounds (F.pre self.now.nested) (F.post self.now.nested) }
+        ensures { Gives result (over_nested spec.initializer tokens.now self.now.bounds (text_of tokens.now) start) }
     {
         if sees(tokens, start, Terminal::LeftBrace) {
             let (values, at) = self.values(tokens, start)?;
@@ -197,12 +245,13 @@ impl<
         start: usize,
         part: Part,
     ) -> Result<(ExprTree, usize), Stop>
-        requires { Nests self.now.bounds self.now.depth (F.pre self.now.nested) (F.post self.now.nested) }
-        ensures { Gives result (over_nested spec.rule tokens.now self.now.bounds self.now.depth part (text_of tokens.now) start) }
+        requires { Nests self.now.bounds (F.pre self.now.nested) (F.post self.now.nested) }
+        ensures { Gives result (over_nested spec.rule tokens.now self.now.bounds part (text_of tokens.now) start) }
     {
         match part {
             Part::Expression => self.expression(tokens, start),
             Part::Conditional => self.conditional(tokens, start),
+            Part::Operand(rank) => self.level(tokens, start, rank),
             Part::Unary => self.unary(tokens, start),
             Part::Plain => self.plain(tokens, start),
             Part::Initializer => self.initializer(tokens, start),

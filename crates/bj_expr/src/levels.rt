@@ -1,8 +1,10 @@
 ghost use Rattle.std.specs.Prelude.{◌≡◌, IfOk};
+ghost use Rattle.bj_grammar.specs.Reader.{Found, and_then};
+ghost use Rattle.bj_expr.specs.declared.part.Part.TheVariants as part;
 ghost use Rattle.bj_expr.specs.Grammar as grammar;
 ghost use Rattle.bj_expr.specs.Reading as spec;
 ghost use Rattle.bj_grammar.specs.Given.{text_of, place_of, Gives};
-ghost use Rattle.bj_expr.specs.Given.{Nests, over_nested, operations_of};
+ghost use Rattle.bj_expr.specs.Given.{Nests, over_nested, part_of, operations_of};
 ghost use Rattle.bj_tree.specs.declared.expr.ExprTree.TheVariants as trees;
 
 use crate::operators::binary_op;
@@ -11,7 +13,7 @@ use crate::sets::{goes_on, is_relational, op_at};
 use crate::types::type_at;
 use crate::{Bounds, Part};
 use bj_core::Span;
-use bj_grammar::{Stop, Symbol, Terminal, place, sees, word};
+use bj_grammar::{Stop, Symbol, Terminal, out_of_turns, place, sees, word};
 use bj_tree::ExprTree;
 use sqlite_items::Boxed;
 use std::alloc::{AllocError, Global};
@@ -36,9 +38,26 @@ fn binary(
     })
 }
 
-impl<
-    F: Fn(Global, &[Symbol], Bounds, usize, usize, Part) -> Result<(ExprTree, usize), Stop>,
-> Reader<F> {
+impl<F: Fn(Global, &[Symbol], Bounds, usize, Part) -> Result<(ExprTree, usize), Stop>> Reader<F> {
+    /// The type, after `instanceof`.
+    fn of_type(
+        &self,
+        tokens: &[Symbol],
+        start: usize,
+        value: ExprTree,
+        at: usize,
+    ) -> Result<(ExprTree, usize), Stop>
+        ensures { Gives result (and_then (spec.type_at (place_of tokens.now) self.now.bounds.most (text_of tokens.now) at) (λ ty j. Found (trees.InstanceOf (place_of tokens.now start) value ty) j)) }
+    {
+        let (of, at) = type_at(self.alloc, tokens, self.bounds.most, at)?;
+        let tree = ExprTree::InstanceOf {
+            at: place(tokens, start),
+            value: Boxed::new(self.alloc, value)?,
+            of,
+        };
+        Ok((tree, at))
+    }
+
     /// `instanceof` and its type [JLS 15.20.2].
     #[tactic(auto, unfolding(crate::specs::Reading::instance))]
     pub(crate) fn instance(
@@ -48,29 +67,23 @@ impl<
         value: ExprTree,
         at: usize,
     ) -> Result<(ExprTree, usize), Stop>
-        requires { Nests self.now.bounds self.now.depth (F.pre self.now.nested) (F.post self.now.nested) }
-        ensures { Gives result (over_nested spec.instance tokens.now self.now.bounds self.now.depth start value (text_of tokens.now) at) }
+        requires { Nests self.now.bounds (F.pre self.now.nested) (F.post self.now.nested) }
+        ensures { Gives result (over_nested spec.instance tokens.now self.now.bounds start value (text_of tokens.now) at) }
     {
         let at = word(tokens, at, Terminal::InstanceOf)?;
-        let (of, at) = type_at(self.alloc, tokens, self.bounds.most, at)?;
-        let tree = ExprTree::InstanceOf {
-            at: place(tokens, start),
-            value: Boxed::new(self.alloc, value)?,
-            of,
-        };
-        self.limited(tokens, tree, start, at)
+        let (value, at) = self.limited(tokens, value, at)?;
+        self.of_type(tokens, start, value, at)
     }
 
     /// An expression with operators of the lowest ranks, so many of them.
-    #[cycle(level)]
     pub(crate) fn level(
         &self,
         tokens: &[Symbol],
         start: usize,
         rank: u8,
     ) -> Result<(ExprTree, usize), Stop>
-        requires { Nests self.now.bounds self.now.depth (F.pre self.now.nested) (F.post self.now.nested) }
-        ensures { Gives result (over_nested spec.level tokens.now self.now.bounds self.now.depth rank (text_of tokens.now) start) }
+        requires { Nests self.now.bounds (F.pre self.now.nested) (F.post self.now.nested) }
+        ensures { Gives result (over_nested spec.level tokens.now self.now.bounds rank (text_of tokens.now) start) }
     {
         if rank == 0 {
             return self.unary(tokens, start);
@@ -79,8 +92,25 @@ impl<
         self.operations(tokens, start, rank - 1, left, at)
     }
 
+    /// The right operand, after an operator of the rank.
+    fn right(
+        &self,
+        tokens: &[Symbol],
+        start: usize,
+        rank: u8,
+        op: Terminal,
+        left: ExprTree,
+        at: usize,
+    ) -> Result<(ExprTree, usize), Stop>
+        requires { Nests self.now.bounds (F.pre self.now.nested) (F.post self.now.nested) }
+        ensures { Gives result (and_then (part_of tokens.now self.now.bounds (part.Operand rank) (text_of tokens.now) at) (λ r j. Found (trees.Binary (place_of tokens.now start) (grammar.binary_op op) left r) j)) }
+    {
+        let (right, at) = self.nest(tokens, at, Part::Operand(rank))?;
+        let tree = binary(self.alloc, place(tokens, start), op, left, right)?;
+        Ok((tree, at))
+    }
+
     /// An operator of the rank and its right operand, after a left one [JLS 15.17 to 15.24].
-    #[cycle(level)]
     #[tactic(auto, unfolding(crate::specs::Reading::binary))]
     pub(crate) fn binary(
         &self,
@@ -90,17 +120,15 @@ impl<
         left: ExprTree,
         at: usize,
     ) -> Result<(ExprTree, usize), Stop>
-        requires { Nests self.now.bounds self.now.depth (F.pre self.now.nested) (F.post self.now.nested) }
-        ensures { Gives result (over_nested spec.binary tokens.now self.now.bounds self.now.depth (over_nested spec.level tokens.now self.now.bounds self.now.depth rank) rank start left (text_of tokens.now) at) }
+        requires { Nests self.now.bounds (F.pre self.now.nested) (F.post self.now.nested) }
+        ensures { Gives result (over_nested spec.binary tokens.now self.now.bounds rank start left (text_of tokens.now) at) }
     {
         let (op, at) = op_at(tokens, at, rank)?;
-        let (right, at) = self.level(tokens, at, rank)?;
-        let tree = binary(self.alloc, place(tokens, start), op, left, right)?;
-        self.limited(tokens, tree, start, at)
+        let (left, at) = self.limited(tokens, left, at)?;
+        self.right(tokens, start, rank, op, left, at)
     }
 
     /// What goes on with an operator of the rank, after a left operand.
-    #[cycle(level)]
     #[tactic(auto, unfolding(crate::specs::Reading::operation))]
     pub(crate) fn operation(
         &self,
@@ -110,8 +138,8 @@ impl<
         left: ExprTree,
         at: usize,
     ) -> Result<(ExprTree, usize), Stop>
-        requires { Nests self.now.bounds self.now.depth (F.pre self.now.nested) (F.post self.now.nested) }
-        ensures { Gives result (over_nested spec.operation tokens.now self.now.bounds self.now.depth (over_nested spec.level tokens.now self.now.bounds self.now.depth rank) rank start left (text_of tokens.now) at) }
+        requires { Nests self.now.bounds (F.pre self.now.nested) (F.post self.now.nested) }
+        ensures { Gives result (over_nested spec.operation tokens.now self.now.bounds rank start left (text_of tokens.now) at) }
     {
         if is_relational(rank) {
             if sees(tokens, at, Terminal::InstanceOf) {
@@ -123,7 +151,6 @@ impl<
     }
 
     /// The operators of a rank, from the left.
-    #[cycle(level)]
     pub(crate) fn operations(
         &self,
         tokens: &[Symbol],
@@ -132,8 +159,8 @@ impl<
         mut left: ExprTree,
         mut at: usize,
     ) -> Result<(ExprTree, usize), Stop>
-        requires { Nests self.now.bounds self.now.depth (F.pre self.now.nested) (F.post self.now.nested) }
-        ensures { Gives result (operations_of self.now.bounds self.now.depth tokens.now rank start left (text_of tokens.now) at) }
+        requires { Nests self.now.bounds (F.pre self.now.nested) (F.post self.now.nested) }
+        ensures { Gives result (operations_of self.now.bounds tokens.now rank start left (text_of tokens.now) at) }
     {
         for _turn in 0..self.bounds.most {
             if !goes_on(tokens, at, rank) {
@@ -142,7 +169,7 @@ impl<
             (left, at) = self.operation(tokens, start, rank, left, at)?;
         }
         if goes_on(tokens, at, rank) {
-            return Err(Stop::Deep(start));
+            return Err(out_of_turns());
         }
         Ok((left, at))
     }

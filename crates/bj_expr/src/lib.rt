@@ -7,6 +7,7 @@ mod creation;
 mod expression;
 mod forms;
 mod levels;
+mod nodes;
 mod operators;
 mod part;
 mod parts;
@@ -20,6 +21,7 @@ mod unary;
 mod values;
 
 pub use bounds::Bounds;
+pub use nodes::node_below;
 pub use operators::assign_op;
 pub use part::Part;
 pub use parts::part_at;

@@ -5,6 +5,8 @@ pub enum Part {
     Expression,
     /// A conditional expression, or one that binds tighter [JLS 15.25].
     Conditional,
+    /// An operand to the right of an operator of the rank, from 0 for the ones that bind tightest [JLS 15.17 to 15.24].
+    Operand(u8),
     /// A unary expression [JLS 15.15].
     Unary,
     /// A unary expression that does not begin with `+`, `-`, `++` or `--` [JLS 15.15].

@@ -6,14 +6,12 @@ use crate::operators::step_op;
 use crate::reader::Reader;
 use crate::sets::{is_step, step_at};
 use crate::{Bounds, Part};
-use bj_grammar::{Stop, Symbol, place};
+use bj_grammar::{Stop, Symbol, out_of_turns, place};
 use bj_tree::ExprTree;
 use sqlite_items::Boxed;
 use std::alloc::Global;
 
-impl<
-    F: Fn(Global, &[Symbol], Bounds, usize, usize, Part) -> Result<(ExprTree, usize), Stop>,
-> Reader<F> {
+impl<F: Fn(Global, &[Symbol], Bounds, usize, Part) -> Result<(ExprTree, usize), Stop>> Reader<F> {
     /// `++` or `--` behind an operand.
     #[tactic(auto, unfolding(crate::specs::Reading::postfix_step))]
     pub(crate) fn postfix_step(
@@ -23,16 +21,17 @@ impl<
         operand: ExprTree,
         at: usize,
     ) -> Result<(ExprTree, usize), Stop>
-        requires { Nests self.now.bounds self.now.depth (F.pre self.now.nested) (F.post self.now.nested) }
-        ensures { Gives result (over_nested spec.postfix_step tokens.now self.now.bounds self.now.depth start operand (text_of tokens.now) at) }
+        requires { Nests self.now.bounds (F.pre self.now.nested) (F.post self.now.nested) }
+        ensures { Gives result (over_nested spec.postfix_step tokens.now self.now.bounds start operand (text_of tokens.now) at) }
     {
         let (op, at) = step_at(tokens, at)?;
+        let (operand, at) = self.limited(tokens, operand, at)?;
         let tree = ExprTree::Postfix {
             at: place(tokens, start),
             op: step_op(op),
             operand: Boxed::new(self.alloc, operand)?,
         };
-        self.limited(tokens, tree, start, at)
+        Ok((tree, at))
     }
 
     /// Each `++` and `--` behind an operand.
@@ -43,8 +42,8 @@ impl<
         mut operand: ExprTree,
         mut at: usize,
     ) -> Result<(ExprTree, usize), Stop>
-        requires { Nests self.now.bounds self.now.depth (F.pre self.now.nested) (F.post self.now.nested) }
-        ensures { Gives result (steps_of self.now.bounds self.now.depth tokens.now start operand (text_of tokens.now) at) }
+        requires { Nests self.now.bounds (F.pre self.now.nested) (F.post self.now.nested) }
+        ensures { Gives result (steps_of self.now.bounds tokens.now start operand (text_of tokens.now) at) }
     {
         for _turn in 0..self.bounds.most {
             if !is_step(tokens, at) {
@@ -53,7 +52,7 @@ impl<
             (operand, at) = self.postfix_step(tokens, start, operand, at)?;
         }
         if is_step(tokens, at) {
-            return Err(Stop::Deep(start));
+            return Err(out_of_turns());
         }
         Ok((operand, at))
     }
@@ -61,8 +60,8 @@ impl<
     /// A postfix expression [JLS 15.14].
     #[tactic(auto, unfolding(crate::specs::Reading::postfix))]
     pub(crate) fn postfix(&self, tokens: &[Symbol], start: usize) -> Result<(ExprTree, usize), Stop>
-        requires { Nests self.now.bounds self.now.depth (F.pre self.now.nested) (F.post self.now.nested) }
-        ensures { Gives result (over_nested spec.postfix tokens.now self.now.bounds self.now.depth (text_of tokens.now) start) }
+        requires { Nests self.now.bounds (F.pre self.now.nested) (F.post self.now.nested) }
+        ensures { Gives result (over_nested spec.postfix tokens.now self.now.bounds (text_of tokens.now) start) }
     {
         let (first, at) = self.selected(tokens, start)?;
         self.postfix_steps(tokens, start, first, at)

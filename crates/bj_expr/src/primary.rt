@@ -12,9 +12,7 @@ use bj_tree::ExprTree;
 use sqlite_items::Boxed;
 use std::alloc::Global;
 
-impl<
-    F: Fn(Global, &[Symbol], Bounds, usize, usize, Part) -> Result<(ExprTree, usize), Stop>,
-> Reader<F> {
+impl<F: Fn(Global, &[Symbol], Bounds, usize, Part) -> Result<(ExprTree, usize), Stop>> Reader<F> {
     /// A name, or a call where a parenthesis comes next.
     #[tactic(auto, unfolding(crate::specs::Reading::named))]
     pub(crate) fn named(
@@ -24,8 +22,8 @@ impl<
         name: JText,
         at: usize,
     ) -> Result<(ExprTree, usize), Stop>
-        requires { Nests self.now.bounds self.now.depth (F.pre self.now.nested) (F.post self.now.nested) }
-        ensures { Gives result (over_nested spec.named tokens.now self.now.bounds self.now.depth start name (text_of tokens.now) at) }
+        requires { Nests self.now.bounds (F.pre self.now.nested) (F.post self.now.nested) }
+        ensures { Gives result (over_nested spec.named tokens.now self.now.bounds start name (text_of tokens.now) at) }
     {
         if sees(tokens, at, Terminal::LeftParen) {
             let (args, at) = self.arguments(tokens, at)?;
@@ -52,8 +50,8 @@ impl<
         name: JText,
         at: usize,
     ) -> Result<(ExprTree, usize), Stop>
-        requires { Nests self.now.bounds self.now.depth (F.pre self.now.nested) (F.post self.now.nested) }
-        ensures { Gives result (over_nested spec.of_super tokens.now self.now.bounds self.now.depth start name (text_of tokens.now) at) }
+        requires { Nests self.now.bounds (F.pre self.now.nested) (F.post self.now.nested) }
+        ensures { Gives result (over_nested spec.of_super tokens.now self.now.bounds start name (text_of tokens.now) at) }
     {
         if sees(tokens, at, Terminal::LeftParen) {
             let (args, at) = self.arguments(tokens, at)?;
@@ -79,8 +77,8 @@ impl<
         start: usize,
         at: usize,
     ) -> Result<(ExprTree, usize), Stop>
-        requires { Nests self.now.bounds self.now.depth (F.pre self.now.nested) (F.post self.now.nested) }
-        ensures { Gives result (over_nested spec.parenthesized tokens.now self.now.bounds self.now.depth start (text_of tokens.now) at) }
+        requires { Nests self.now.bounds (F.pre self.now.nested) (F.post self.now.nested) }
+        ensures { Gives result (over_nested spec.parenthesized tokens.now self.now.bounds start (text_of tokens.now) at) }
     {
         let at = word(tokens, at, Terminal::LeftParen)?;
         let (inner, at) = self.nest(tokens, at, Part::Expression)?;
@@ -100,8 +98,8 @@ impl<
         start: usize,
         at: usize,
     ) -> Result<(ExprTree, usize), Stop>
-        requires { Nests self.now.bounds self.now.depth (F.pre self.now.nested) (F.post self.now.nested) }
-        ensures { Gives result (over_nested spec.by_super tokens.now self.now.bounds self.now.depth start (text_of tokens.now) at) }
+        requires { Nests self.now.bounds (F.pre self.now.nested) (F.post self.now.nested) }
+        ensures { Gives result (over_nested spec.by_super tokens.now self.now.bounds start (text_of tokens.now) at) }
     {
         let at = word(tokens, at, Terminal::Super)?;
         let name_at = word(tokens, at, Terminal::Dot)?;
@@ -118,8 +116,8 @@ impl<
         start: usize,
         at: usize,
     ) -> Result<(ExprTree, usize), Stop>
-        requires { Nests self.now.bounds self.now.depth (F.pre self.now.nested) (F.post self.now.nested) }
-        ensures { Gives result (over_nested spec.by_name tokens.now self.now.bounds self.now.depth start (text_of tokens.now) at) }
+        requires { Nests self.now.bounds (F.pre self.now.nested) (F.post self.now.nested) }
+        ensures { Gives result (over_nested spec.by_name tokens.now self.now.bounds start (text_of tokens.now) at) }
     {
         let name = units(self.alloc, tokens, at)?;
         let at = word(tokens, at, Terminal::Word)?;
@@ -134,8 +132,8 @@ impl<
         start: usize,
         at: usize,
     ) -> Result<(ExprTree, usize), Stop>
-        requires { Nests self.now.bounds self.now.depth (F.pre self.now.nested) (F.post self.now.nested) }
-        ensures { Gives result (over_nested spec.literal tokens.now self.now.bounds self.now.depth start (text_of tokens.now) at) }
+        requires { Nests self.now.bounds (F.pre self.now.nested) (F.post self.now.nested) }
+        ensures { Gives result (over_nested spec.literal tokens.now self.now.bounds start (text_of tokens.now) at) }
     {
         let text = units(self.alloc, tokens, at)?;
         let (found, at) = literal_at(tokens, at)?;
@@ -150,8 +148,8 @@ impl<
     /// A primary expression, without what is selected from it [JLS 15.8].
     #[tactic(auto, unfolding(crate::specs::Reading::primary))]
     pub(crate) fn primary(&self, tokens: &[Symbol], start: usize) -> Result<(ExprTree, usize), Stop>
-        requires { Nests self.now.bounds self.now.depth (F.pre self.now.nested) (F.post self.now.nested) }
-        ensures { Gives result (over_nested spec.primary tokens.now self.now.bounds self.now.depth (text_of tokens.now) start) }
+        requires { Nests self.now.bounds (F.pre self.now.nested) (F.post self.now.nested) }
+        ensures { Gives result (over_nested spec.primary tokens.now self.now.bounds (text_of tokens.now) start) }
     {
         if is_literal(tokens, start) {
             return self.literal(tokens, start, start);

@@ -1,11 +1,11 @@
-ghost use Rattle.std.specs.Prelude.{◌≡◌, nat_lt};
 ghost use Rattle.bj_expr.specs.Reading as spec;
-ghost use Rattle.bj_grammar.specs.Given.{text_of, place_of, Gives};
-ghost use Rattle.bj_expr.specs.Given.{Nests};
+ghost use Rattle.bj_grammar.specs.Given.{text_of, Gives};
+ghost use Rattle.bj_expr.specs.Given.{Nests, part_of};
 
+use crate::nodes::node_below;
 use crate::{Bounds, Part};
 use bj_grammar::{Stop, Symbol};
-use bj_tree::{ExprTree, height};
+use bj_tree::ExprTree;
 use std::alloc::Global;
 
 /// The rules of expressions and initializers, over a function that reads the parts nested in them.
@@ -13,17 +13,13 @@ use std::alloc::Global;
 pub struct Reader<F> {
     /// Where trees are put.
     pub alloc: Global,
-    /// How much reading may take.
+    /// How much the reading of a nested part may take.
     pub bounds: Bounds,
-    /// How deep parts may still nest.
-    pub depth: usize,
-    /// What reads a nested part, given the bounds, the depth, the place and the part.
+    /// What reads a nested part, given the bounds, the place and the part.
     pub nested: F,
 }
 
-impl<
-    F: Fn(Global, &[Symbol], Bounds, usize, usize, Part) -> Result<(ExprTree, usize), Stop>,
-> Reader<F> {
+impl<F: Fn(Global, &[Symbol], Bounds, usize, Part) -> Result<(ExprTree, usize), Stop>> Reader<F> {
     /// A nested part.
     pub(crate) fn nest(
         &self,
@@ -31,43 +27,42 @@ impl<
         at: usize,
         part: Part,
     ) -> Result<(ExprTree, usize), Stop>
-        requires { Nests self.now.bounds self.now.depth (F.pre self.now.nested) (F.post self.now.nested) }
-        ensures { Gives result (spec.nested (place_of tokens.now) self.now.bounds self.now.depth part (text_of tokens.now) at) }
+        requires { Nests self.now.bounds (F.pre self.now.nested) (F.post self.now.nested) }
+        ensures { Gives result (part_of tokens.now self.now.bounds part (text_of tokens.now) at) }
     {
-        (self.nested)(self.alloc, tokens, self.bounds, self.depth, at, part)
+        (self.nested)(self.alloc, tokens, self.bounds, at, part)
     }
 
-    /// A tree that begins at a place and is no higher than there is room.
+    /// A part that was read before the node above it was seen, and that there is room for below it.
+    #[tactic(auto, unfolding(crate::specs::Reading::limited))]
     pub(crate) fn limited(
         &self,
         tokens: &[Symbol],
         tree: ExprTree,
-        start: usize,
         at: usize,
     ) -> Result<(ExprTree, usize), Stop>
-        requires { Nests self.now.bounds self.now.depth (F.pre self.now.nested) (F.post self.now.nested) }
         ensures { Gives result (spec.limited self.now.bounds.room tree (text_of tokens.now) at) }
     {
-        limited(tokens, self.bounds, tree, start, at)
+        limited(tokens, tree, self.bounds.room, at)
     }
 }
 
-/// A tree that is no higher than there is room.
+/// A tree that has no node with so many above it.
 ///
 /// # Errors
 ///
-/// `Deep` at the start where it is.
+/// `Deep` at the first such node.
+#[tactic(auto, unfolding(crate::specs::Reading::limited))]
 pub fn limited(
-    tokens: &[Symbol],
-    bounds: Bounds,
+    _tokens: &[Symbol],
     tree: ExprTree,
-    start: usize,
+    room: u16,
     at: usize,
 ) -> Result<(ExprTree, usize), Stop>
-    ensures { Gives result (spec.limited bounds.room tree (text_of tokens.now) at) }
+    ensures { Gives result (spec.limited room tree (text_of _tokens.now) at) }
 {
-    if height(&tree) > u32::from(bounds.room) {
-        return Err(Stop::Deep(start));
+    match node_below(&tree, room) {
+        Some(node) => Err(Stop::Deep(node)),
+        None => Ok((tree, at)),
     }
-    Ok((tree, at))
 }

@@ -1,7 +1,10 @@
 ghost use Rattle.std.specs.Prelude.{◌≡◌, IfOk};
+ghost use Rattle.bj_grammar.specs.declared.terminal.Terminal.TheVariants as t;
+ghost use Rattle.bj_grammar.specs.Reader.{and_then, sign, pure};
+ghost use Rattle.bj_expr.specs.declared.part.Part.TheVariants as part;
 ghost use Rattle.bj_expr.specs.Reading as spec;
 ghost use Rattle.bj_grammar.specs.Given.{text_of, place_of, Gives};
-ghost use Rattle.bj_expr.specs.Given.{Nests, over_nested, selections_of};
+ghost use Rattle.bj_expr.specs.Given.{Nests, over_nested, part_of, selections_of};
 ghost use Rattle.bj_tree.specs.declared.expr.ExprTree.TheVariants as trees;
 
 use crate::forms::is_new_array;
@@ -9,7 +12,7 @@ use crate::reader::Reader;
 use crate::sets::is_selector;
 use crate::{Bounds, Part};
 use bj_core::{JText, Span};
-use bj_grammar::{Stop, Symbol, Terminal, place, sees, units, word};
+use bj_grammar::{Stop, Symbol, Terminal, out_of_turns, place, sees, units, word};
 use bj_tree::ExprTree;
 use sqlite_items::Boxed;
 use std::alloc::{AllocError, Global};
@@ -28,9 +31,7 @@ fn indexed(
     Ok(ExprTree::Index { at, array, index })
 }
 
-impl<
-    F: Fn(Global, &[Symbol], Bounds, usize, usize, Part) -> Result<(ExprTree, usize), Stop>,
-> Reader<F> {
+impl<F: Fn(Global, &[Symbol], Bounds, usize, Part) -> Result<(ExprTree, usize), Stop>> Reader<F> {
     /// A field or a call, from behind its name on [JLS 15.11, 15.12].
     #[tactic(auto, unfolding(crate::specs::Reading::member))]
     pub(crate) fn member(
@@ -41,8 +42,8 @@ impl<
         name: JText,
         at: usize,
     ) -> Result<(ExprTree, usize), Stop>
-        requires { Nests self.now.bounds self.now.depth (F.pre self.now.nested) (F.post self.now.nested) }
-        ensures { Gives result (over_nested spec.member tokens.now self.now.bounds self.now.depth start target name (text_of tokens.now) at) }
+        requires { Nests self.now.bounds (F.pre self.now.nested) (F.post self.now.nested) }
+        ensures { Gives result (over_nested spec.member tokens.now self.now.bounds start target name (text_of tokens.now) at) }
     {
         if sees(tokens, at, Terminal::LeftParen) {
             let (args, at) = self.arguments(tokens, at)?;
@@ -52,14 +53,31 @@ impl<
                 name,
                 args,
             };
-            return self.limited(tokens, tree, start, at);
+            return Ok((tree, at));
         }
         let tree = ExprTree::Field {
             at: place(tokens, start),
             target: Boxed::new(self.alloc, target)?,
             name,
         };
-        self.limited(tokens, tree, start, at)
+        Ok((tree, at))
+    }
+
+    /// An index and its closing bracket.
+    fn index(
+        &self,
+        tokens: &[Symbol],
+        start: usize,
+        array: ExprTree,
+        at: usize,
+    ) -> Result<(ExprTree, usize), Stop>
+        requires { Nests self.now.bounds (F.pre self.now.nested) (F.post self.now.nested) }
+        ensures { Gives result (and_then (part_of tokens.now self.now.bounds part.Expression (text_of tokens.now) at) (λ y j. sign t.RightBracket (pure (trees.Index (place_of tokens.now start) array y)) (text_of tokens.now) j)) }
+    {
+        let (index, at) = self.nest(tokens, at, Part::Expression)?;
+        let at = word(tokens, at, Terminal::RightBracket)?;
+        let tree = indexed(self.alloc, place(tokens, start), array, index)?;
+        Ok((tree, at))
     }
 
     /// An index in brackets [JLS 15.10.3].
@@ -71,14 +89,12 @@ impl<
         array: ExprTree,
         at: usize,
     ) -> Result<(ExprTree, usize), Stop>
-        requires { Nests self.now.bounds self.now.depth (F.pre self.now.nested) (F.post self.now.nested) }
-        ensures { Gives result (over_nested spec.element tokens.now self.now.bounds self.now.depth start array (text_of tokens.now) at) }
+        requires { Nests self.now.bounds (F.pre self.now.nested) (F.post self.now.nested) }
+        ensures { Gives result (over_nested spec.element tokens.now self.now.bounds start array (text_of tokens.now) at) }
     {
         let at = word(tokens, at, Terminal::LeftBracket)?;
-        let (index, at) = self.nest(tokens, at, Part::Expression)?;
-        let at = word(tokens, at, Terminal::RightBracket)?;
-        let tree = indexed(self.alloc, place(tokens, start), array, index)?;
-        self.limited(tokens, tree, start, at)
+        let (array, at) = self.limited(tokens, array, at)?;
+        self.index(tokens, start, array, at)
     }
 
     /// A dot, and a field or a call.
@@ -90,10 +106,11 @@ impl<
         target: ExprTree,
         at: usize,
     ) -> Result<(ExprTree, usize), Stop>
-        requires { Nests self.now.bounds self.now.depth (F.pre self.now.nested) (F.post self.now.nested) }
-        ensures { Gives result (over_nested spec.dotted tokens.now self.now.bounds self.now.depth start target (text_of tokens.now) at) }
+        requires { Nests self.now.bounds (F.pre self.now.nested) (F.post self.now.nested) }
+        ensures { Gives result (over_nested spec.dotted tokens.now self.now.bounds start target (text_of tokens.now) at) }
     {
-        let name_at = word(tokens, at, Terminal::Dot)?;
+        let at = word(tokens, at, Terminal::Dot)?;
+        let (target, name_at) = self.limited(tokens, target, at)?;
         let name = units(self.alloc, tokens, name_at)?;
         let at = word(tokens, name_at, Terminal::Word)?;
         self.member(tokens, start, target, name, at)
@@ -108,8 +125,8 @@ impl<
         target: ExprTree,
         at: usize,
     ) -> Result<(ExprTree, usize), Stop>
-        requires { Nests self.now.bounds self.now.depth (F.pre self.now.nested) (F.post self.now.nested) }
-        ensures { Gives result (over_nested spec.selection tokens.now self.now.bounds self.now.depth start target (text_of tokens.now) at) }
+        requires { Nests self.now.bounds (F.pre self.now.nested) (F.post self.now.nested) }
+        ensures { Gives result (over_nested spec.selection tokens.now self.now.bounds start target (text_of tokens.now) at) }
     {
         if is_new_array(&target) {
             return self.dotted(tokens, start, target, at);
@@ -128,8 +145,8 @@ impl<
         mut target: ExprTree,
         mut at: usize,
     ) -> Result<(ExprTree, usize), Stop>
-        requires { Nests self.now.bounds self.now.depth (F.pre self.now.nested) (F.post self.now.nested) }
-        ensures { Gives result (selections_of self.now.bounds self.now.depth tokens.now start target (text_of tokens.now) at) }
+        requires { Nests self.now.bounds (F.pre self.now.nested) (F.post self.now.nested) }
+        ensures { Gives result (selections_of self.now.bounds tokens.now start target (text_of tokens.now) at) }
     {
         for _turn in 0..self.bounds.most {
             if !is_selector(tokens, at) {
@@ -138,7 +155,7 @@ impl<
             (target, at) = self.selection(tokens, start, target, at)?;
         }
         if is_selector(tokens, at) {
-            return Err(Stop::Deep(start));
+            return Err(out_of_turns());
         }
         Ok((target, at))
     }
@@ -150,8 +167,8 @@ impl<
         tokens: &[Symbol],
         start: usize,
     ) -> Result<(ExprTree, usize), Stop>
-        requires { Nests self.now.bounds self.now.depth (F.pre self.now.nested) (F.post self.now.nested) }
-        ensures { Gives result (over_nested spec.selected tokens.now self.now.bounds self.now.depth (text_of tokens.now) start) }
+        requires { Nests self.now.bounds (F.pre self.now.nested) (F.post self.now.nested) }
+        ensures { Gives result (over_nested spec.selected tokens.now self.now.bounds (text_of tokens.now) start) }
     {
         let (first, at) = self.primary(tokens, start)?;
         self.selections(tokens, start, first, at)

@@ -5,7 +5,7 @@ ghost use Rattle.bj_grammar.specs.Given.{text_of, place_of, Gives};
 
 use crate::sets::{begins_plain, is_primitive, type_word_at};
 use bj_core::{JText, NoMemory};
-use bj_grammar::{Stop, Symbol, Terminal, peek, place, sees, units, word};
+use bj_grammar::{Stop, Symbol, Terminal, out_of_turns, peek, place, sees, units, word};
 use bj_tree::{TypeName, TypeTree};
 use std::alloc::Global;
 
@@ -68,7 +68,7 @@ pub fn pairs(
         (dims, at) = pair(tokens, dims, at)?;
     }
     if sees(tokens, at, Terminal::LeftBracket) {
-        return Err(Stop::Deep(at));
+        return Err(out_of_turns());
     }
     Ok((dims, at))
 }

@@ -13,9 +13,7 @@ use bj_tree::{ExprTree, UnaryOp};
 use sqlite_items::Boxed;
 use std::alloc::Global;
 
-impl<
-    F: Fn(Global, &[Symbol], Bounds, usize, usize, Part) -> Result<(ExprTree, usize), Stop>,
-> Reader<F> {
+impl<F: Fn(Global, &[Symbol], Bounds, usize, Part) -> Result<(ExprTree, usize), Stop>> Reader<F> {
     /// A cast [JLS 15.16].
     #[tactic(auto, unfolding(crate::specs::Reading::cast))]
     pub(crate) fn cast(
@@ -24,8 +22,8 @@ impl<
         start: usize,
         at: usize,
     ) -> Result<(ExprTree, usize), Stop>
-        requires { Nests self.now.bounds self.now.depth (F.pre self.now.nested) (F.post self.now.nested) }
-        ensures { Gives result (over_nested spec.cast tokens.now self.now.bounds self.now.depth start (text_of tokens.now) at) }
+        requires { Nests self.now.bounds (F.pre self.now.nested) (F.post self.now.nested) }
+        ensures { Gives result (over_nested spec.cast tokens.now self.now.bounds start (text_of tokens.now) at) }
     {
         let at = word(tokens, at, Terminal::LeftParen)?;
         let (to, at) = type_at(self.alloc, tokens, self.bounds.most, at)?;
@@ -47,8 +45,8 @@ impl<
         start: usize,
         at: usize,
     ) -> Result<(ExprTree, usize), Stop>
-        requires { Nests self.now.bounds self.now.depth (F.pre self.now.nested) (F.post self.now.nested) }
-        ensures { Gives result (over_nested spec.negation tokens.now self.now.bounds self.now.depth start (text_of tokens.now) at) }
+        requires { Nests self.now.bounds (F.pre self.now.nested) (F.post self.now.nested) }
+        ensures { Gives result (over_nested spec.negation tokens.now self.now.bounds start (text_of tokens.now) at) }
     {
         let (op, at) = negation_at(tokens, at)?;
         let (operand, at) = self.nest(tokens, at, Part::Unary)?;
@@ -63,8 +61,8 @@ impl<
     /// A unary expression that does not begin with `+`, `-`, `++` or `--` [JLS 15.15].
     #[tactic(auto, unfolding(crate::specs::Reading::plain))]
     pub(crate) fn plain(&self, tokens: &[Symbol], start: usize) -> Result<(ExprTree, usize), Stop>
-        requires { Nests self.now.bounds self.now.depth (F.pre self.now.nested) (F.post self.now.nested) }
-        ensures { Gives result (over_nested spec.plain tokens.now self.now.bounds self.now.depth (text_of tokens.now) start) }
+        requires { Nests self.now.bounds (F.pre self.now.nested) (F.post self.now.nested) }
+        ensures { Gives result (over_nested spec.plain tokens.now self.now.bounds (text_of tokens.now) start) }
     {
         if is_negation(tokens, start) {
             return self.negation(tokens, start, start);
@@ -83,8 +81,8 @@ impl<
         start: usize,
         at: usize,
     ) -> Result<(ExprTree, usize), Stop>
-        requires { Nests self.now.bounds self.now.depth (F.pre self.now.nested) (F.post self.now.nested) }
-        ensures { Gives result (over_nested spec.least tokens.now self.now.bounds self.now.depth start (text_of tokens.now) at) }
+        requires { Nests self.now.bounds (F.pre self.now.nested) (F.post self.now.nested) }
+        ensures { Gives result (over_nested spec.least tokens.now self.now.bounds start (text_of tokens.now) at) }
     {
         let text = units(self.alloc, tokens, at)?;
         let literal_place = place(tokens, at);
@@ -94,6 +92,7 @@ impl<
             kind: literal_kind(found),
             text,
         };
+        let (operand, at) = self.limited(tokens, operand, at)?;
         let tree = ExprTree::Unary {
             at: place(tokens, start),
             op: UnaryOp::Minus,
@@ -110,8 +109,8 @@ impl<
         start: usize,
         at: usize,
     ) -> Result<(ExprTree, usize), Stop>
-        requires { Nests self.now.bounds self.now.depth (F.pre self.now.nested) (F.post self.now.nested) }
-        ensures { Gives result (over_nested spec.negative tokens.now self.now.bounds self.now.depth start (text_of tokens.now) at) }
+        requires { Nests self.now.bounds (F.pre self.now.nested) (F.post self.now.nested) }
+        ensures { Gives result (over_nested spec.negative tokens.now self.now.bounds start (text_of tokens.now) at) }
     {
         if is_least(tokens, at) {
             return self.least(tokens, start, at);
@@ -133,8 +132,8 @@ impl<
         start: usize,
         at: usize,
     ) -> Result<(ExprTree, usize), Stop>
-        requires { Nests self.now.bounds self.now.depth (F.pre self.now.nested) (F.post self.now.nested) }
-        ensures { Gives result (over_nested spec.positive tokens.now self.now.bounds self.now.depth start (text_of tokens.now) at) }
+        requires { Nests self.now.bounds (F.pre self.now.nested) (F.post self.now.nested) }
+        ensures { Gives result (over_nested spec.positive tokens.now self.now.bounds start (text_of tokens.now) at) }
     {
         let at = word(tokens, at, Terminal::Plus)?;
         let (operand, at) = self.nest(tokens, at, Part::Unary)?;
@@ -154,8 +153,8 @@ impl<
         start: usize,
         at: usize,
     ) -> Result<(ExprTree, usize), Stop>
-        requires { Nests self.now.bounds self.now.depth (F.pre self.now.nested) (F.post self.now.nested) }
-        ensures { Gives result (over_nested spec.prefixed tokens.now self.now.bounds self.now.depth start (text_of tokens.now) at) }
+        requires { Nests self.now.bounds (F.pre self.now.nested) (F.post self.now.nested) }
+        ensures { Gives result (over_nested spec.prefixed tokens.now self.now.bounds start (text_of tokens.now) at) }
     {
         let (op, at) = step_at(tokens, at)?;
         let (operand, at) = self.nest(tokens, at, Part::Unary)?;
@@ -170,8 +169,8 @@ impl<
     /// A unary expression [JLS 15.15].
     #[tactic(auto, unfolding(crate::specs::Reading::unary))]
     pub(crate) fn unary(&self, tokens: &[Symbol], start: usize) -> Result<(ExprTree, usize), Stop>
-        requires { Nests self.now.bounds self.now.depth (F.pre self.now.nested) (F.post self.now.nested) }
-        ensures { Gives result (over_nested spec.unary tokens.now self.now.bounds self.now.depth (text_of tokens.now) start) }
+        requires { Nests self.now.bounds (F.pre self.now.nested) (F.post self.now.nested) }
+        ensures { Gives result (over_nested spec.unary tokens.now self.now.bounds (text_of tokens.now) start) }
     {
         if sees(tokens, start, Terminal::Minus) {
             let at = word(tokens, start, Terminal::Minus)?;

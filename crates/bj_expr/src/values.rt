@@ -3,18 +3,16 @@ ghost use Rattle.bj_grammar.specs.Reader.{and_then};
 ghost use Rattle.bj_expr.specs.declared.part.Part.TheVariants as part;
 ghost use Rattle.bj_expr.specs.Reading as spec;
 ghost use Rattle.bj_grammar.specs.Given.{text_of, place_of, Gives};
-ghost use Rattle.bj_expr.specs.Given.{Nests, over_nested};
+ghost use Rattle.bj_expr.specs.Given.{Nests, over_nested, part_of};
 
 use crate::reader::Reader;
 use crate::{Bounds, Part};
-use bj_grammar::{Stop, Symbol, Terminal, sees, word};
+use bj_grammar::{Stop, Symbol, Terminal, out_of_turns, sees, word};
 use bj_tree::{ExprTree, ExprTrees};
 use sqlite_items::Items;
 use std::alloc::Global;
 
-impl<
-    F: Fn(Global, &[Symbol], Bounds, usize, usize, Part) -> Result<(ExprTree, usize), Stop>,
-> Reader<F> {
+impl<F: Fn(Global, &[Symbol], Bounds, usize, Part) -> Result<(ExprTree, usize), Stop>> Reader<F> {
     /// The values behind some, up to the closing brace. A comma may stand before it.
     pub(crate) fn more_values(
         &self,
@@ -22,8 +20,8 @@ impl<
         mut found: ExprTrees,
         mut at: usize,
     ) -> Result<(ExprTrees, usize), Stop>
-        requires { Nests self.now.bounds self.now.depth (F.pre self.now.nested) (F.post self.now.nested) }
-        ensures { Gives result (over_nested spec.more_values tokens.now self.now.bounds self.now.depth self.now.bounds.most found (text_of tokens.now) at) }
+        requires { Nests self.now.bounds (F.pre self.now.nested) (F.post self.now.nested) }
+        ensures { Gives result (over_nested spec.more_values tokens.now self.now.bounds self.now.bounds.most found (text_of tokens.now) at) }
     {
         for _turn in 0..self.bounds.most {
             if !sees(tokens, at, Terminal::Comma) {
@@ -38,7 +36,7 @@ impl<
             at = next;
         }
         if sees(tokens, at, Terminal::Comma) {
-            return Err(Stop::Deep(at));
+            return Err(out_of_turns());
         }
         Ok((found, at))
     }
@@ -49,8 +47,8 @@ impl<
         tokens: &[Symbol],
         at: usize,
     ) -> Result<(ExprTrees, usize), Stop>
-        requires { Nests self.now.bounds self.now.depth (F.pre self.now.nested) (F.post self.now.nested) }
-        ensures { Gives result (and_then (spec.nested (place_of tokens.now) self.now.bounds self.now.depth part.Initializer (text_of tokens.now) at) (λ x j. over_nested spec.more_values tokens.now self.now.bounds self.now.depth self.now.bounds.most (x ∷ []) (text_of tokens.now) j)) }
+        requires { Nests self.now.bounds (F.pre self.now.nested) (F.post self.now.nested) }
+        ensures { Gives result (and_then (part_of tokens.now self.now.bounds part.Initializer (text_of tokens.now) at) (λ x j. over_nested spec.more_values tokens.now self.now.bounds self.now.bounds.most (x ∷ []) (text_of tokens.now) j)) }
     {
         let (first, at) = self.nest(tokens, at, Part::Initializer)?;
         let mut found = Items::new(self.alloc);
@@ -65,8 +63,8 @@ impl<
         tokens: &[Symbol],
         at: usize,
     ) -> Result<(ExprTrees, usize), Stop>
-        requires { Nests self.now.bounds self.now.depth (F.pre self.now.nested) (F.post self.now.nested) }
-        ensures { Gives result (over_nested spec.inside_braces tokens.now self.now.bounds self.now.depth (text_of tokens.now) at) }
+        requires { Nests self.now.bounds (F.pre self.now.nested) (F.post self.now.nested) }
+        ensures { Gives result (over_nested spec.inside_braces tokens.now self.now.bounds (text_of tokens.now) at) }
     {
         if sees(tokens, at, Terminal::RightBrace) {
             return Ok((Items::new(self.alloc), at));
@@ -81,8 +79,8 @@ impl<
     /// Values in braces [JLS 10.6].
     #[tactic(auto, unfolding(crate::specs::Reading::values))]
     pub(crate) fn values(&self, tokens: &[Symbol], at: usize) -> Result<(ExprTrees, usize), Stop>
-        requires { Nests self.now.bounds self.now.depth (F.pre self.now.nested) (F.post self.now.nested) }
-        ensures { Gives result (over_nested spec.values tokens.now self.now.bounds self.now.depth (text_of tokens.now) at) }
+        requires { Nests self.now.bounds (F.pre self.now.nested) (F.post self.now.nested) }
+        ensures { Gives result (over_nested spec.values tokens.now self.now.bounds (text_of tokens.now) at) }
     {
         let at = word(tokens, at, Terminal::LeftBrace)?;
         let (all, at) = self.inside_braces(tokens, at)?;

@@ -1,5 +1,5 @@
 -- What is proved of each rule's reader, and how it follows from its parts.
-use Rattle.std.proofs.Common.{◌≡◌, ℕ, zero, suc, ◌+◌, ◌<◌, ◌≤◌, List, ◌⊎◌, inl, inr, Bool, true, false, cond, refl, sym, ap, ◌∙◌, subst, arith, le_refl}
+use Rattle.std.proofs.Common.{◌≡◌, ℕ, zero, suc, ◌+◌, ◌<◌, ◌≤◌, List, Option, None, Some, ◌⊎◌, inl, inr, Bool, true, false, cond, refl, sym, ap, ◌∙◌, subst, arith, le_refl}
 use Rattle.std.proofs.lemmas.Bool.{eq-eqb, ne_eqb, cases_lt}
 use denote.Enum.Bare.{same_true, true_same}
 use lib.Dec.{eqb}
@@ -8,7 +8,8 @@ use Rattle.bj_lex.specs.declared.token.Token.{Token}
 use Rattle.bj_grammar.specs.Terminal.{terminal, same_terminal}
 use Rattle.bj_grammar.proofs.Terminals.{make, made, is_token}
 use Rattle.bj_grammar.specs.contracts.terminal.Terminal.{the_type}
-use Rattle.bj_grammar.specs.Reader.{Text, Answer, Found, Wrong, Over, Parser, and_then, ◌>>=◌, pure, over, here, operator, word, ahead, choose, loop}
+use Rattle.bj_core.specs.declared.types.Span.{Span}
+use Rattle.bj_grammar.specs.Reader.{Text, Answer, Found, Wrong, Over, Parser, and_then, ◌>>=◌, pure, over, unless_deep, nowhere, here, operator, word, ahead, choose, loop}
 
 pub kind_is : (a b : Terminal) → same_terminal a b ≡ true → a ≡ b
 unfolding same_terminal
@@ -18,16 +19,33 @@ pub is_kind : (a b : Terminal) → a ≡ b → same_terminal a b ≡ true
 unfolding same_terminal
 is_kind a b e = true_same the_type a b e
 
--- the place where a reader stopped
+-- the place up to which a reader took tokens
+abbrev pub reached : {A : Type 0} → Answer A → ℕ
+reached (Found a j) = j
+reached (Wrong k) = k
+reached (Over k at) = k
+
+-- the place of the last token that a reader may have looked at
 abbrev pub stop : {A : Type 0} → Answer A → ℕ
 stop (Found a j) = j
 stop (Wrong k) = k
-stop (Over k) = k
+stop (Over k at) = suc (suc (suc (suc k)))
 
-abbrev pub IsOver : {A : Type 0} → Answer A → Type 0
-IsOver (Found a j) = ⊥
-IsOver (Wrong k) = ⊥
-IsOver (Over k) = Unit {0}
+-- the place up to which the tokens begin a text, where a reader finds no tree
+abbrev pub halted : {A : Type 0} → Answer A → Option ℕ
+halted (Found a j) = None
+halted (Wrong k) = Some k
+halted (Over k at) = Some k
+
+pub reached_stop : {A : Type 0} (r : Answer A) → reached r ≤ stop r
+reached_stop (Found a j) = le_refl j
+reached_stop (Wrong k) = le_refl k
+reached_stop (Over k at) = omega arith
+
+pub halted_reached : {A : Type 0} (r : Answer A) (k : ℕ) → halted r ≡ Some k → reached r ≡ k
+halted_reached (Found a j) k e = absurd (cc)
+halted_reached (Wrong m) k e = cc
+halted_reached (Over m at) k e = cc
 
 -- which trees stand where
 abbrev pub Rel : Type 0 → Type 1
@@ -47,25 +65,27 @@ pub record Shape {A : Type 0} (D : Rel A) : Type 0 where
   pub frame : (s t : Text) (a : A) (i j : ℕ) → ((x : ℕ) → x < j → t x ≡ s x) → D s a i j → D t a i j
   pub some : (s : Text) (i : ℕ) → Completes D s i i
 
--- why a reader may pass its limit where a tree stands: the tree is too tall, or it has this many tokens
-abbrev pub Excuse : {A : Type 0} → ℕ → (A → Type 0) → A → ℕ → ℕ → Type 0
-Excuse n T a i j = T a ⊎ (n + i ≤ j)
+-- A reader passes its limit where a tree stands: the node is too deep in the tree, or so many tokens were taken.
+pub record Passed {A : Type 0} (n : ℕ) (T : Span → A → Type 0) (r : Answer A) (a : A) (i : ℕ) : Type 0 where
+  pub place : ℕ
+  pub node : Span
+  pub is : r ≡ Over place node
+  pub why : T node a ⊎ (n + i ≤ place)
 
-abbrev pub Outcome : {A : Type 0} → ℕ → (A → Type 0) → Answer A → A → ℕ → ℕ → Type 0
-Outcome n T r a i j = (r ≡ Found a j) ⊎ (IsOver r × Excuse n T a i j)
+abbrev pub Outcome : {A : Type 0} → ℕ → (Span → A → Type 0) → Answer A → A → ℕ → ℕ → Type 0
+Outcome n T r a i j = (r ≡ Found a j) ⊎ Passed n T r a i
 
-pub record Laws {A : Type 0} (n : ℕ) (p : Parser A) (D : Rel A) (E : A → Terminal → Type 0) (T : A → Type 0) : Type 0 where
+pub record Laws {A : Type 0} (n : ℕ) (p : Parser A) (D : Rel A) (E : A → Terminal → Type 0) (T : Span → A → Type 0) : Type 0 where
   pub shape : Shape D
-  pub onward : (s : Text) (i : ℕ) → i ≤ stop (p s i)
+  pub onward : (s : Text) (i : ℕ) → i ≤ reached (p s i)
   -- what is read depends on no token after the one where it stops
   pub local : (s t : Text) (i : ℕ) → ((x : ℕ) → x ≤ stop (p s i) → t x ≡ s x) → p t i ≡ p s i
   pub sound : (s : Text) (i : ℕ) (a : A) (j : ℕ) → p s i ≡ Found a j → D s a i j
   -- the end is not read over
-  pub inside : (s : Text) (i : ℕ) (a : A) (j : ℕ) → p s i ≡ Found a j → (x : ℕ) → i ≤ x → x < j → is_token (terminal (s x)) ≡ true
+  pub inside : (s : Text) (i x : ℕ) → i ≤ x → x < reached (p s i) → is_token (terminal (s x)) ≡ true
   pub complete : (s : Text) (i : ℕ) (a : A) (j : ℕ) → D s a i j → E a (terminal (s j)) → Outcome n T (p s i) a i j
-  pub viable : (s : Text) (i k : ℕ) → p s i ≡ Wrong k → Completes D s i k
-  -- a limit is said to be passed well after the tokens that were looked at
-  pub far : (s : Text) (i k : ℕ) → p s i ≡ Over k → suc (suc (suc (suc i))) ≤ k
+  -- where no tree is found, the tokens before begin one
+  pub viable : (s : Text) (i k : ℕ) → halted (p s i) ≡ Some k → Completes D s i k
 
 -- ---- one after another
 
@@ -111,30 +131,22 @@ module _ {A B : Type 0} (P : Rel A) (Q : A → Rel B) where
 pub and_then_found : {A B : Type 0} (r : Answer A) (f : A → ℕ → Answer B) (b : B) (j : ℕ) → and_then r f ≡ Found b j → (a : A) × (m : ℕ) × (r ≡ Found a m) × (f a m ≡ Found b j)
 and_then_found (Found a m) f b j e = (a, m, refl, e)
 and_then_found (Wrong k) f b j e = absurd (cc)
-and_then_found (Over k) f b j e = absurd (cc)
+and_then_found (Over k at) f b j e = absurd (cc)
 
-and_then_wrong : {A B : Type 0} (r : Answer A) (f : A → ℕ → Answer B) (k : ℕ) → and_then r f ≡ Wrong k → ((a : A) × (m : ℕ) × (r ≡ Found a m) × (f a m ≡ Wrong k)) ⊎ (r ≡ Wrong k)
-and_then_wrong (Found a m) f k e = inl (a, m, refl, e)
-and_then_wrong (Wrong i) f k e = let same : i ≡ k = cc in inr (ap Wrong same)
-and_then_wrong (Over i) f k e = absurd (cc)
+pub and_then_halted : {A B : Type 0} (r : Answer A) (f : A → ℕ → Answer B) (k : ℕ) → halted (and_then r f) ≡ Some k → ((a : A) × (m : ℕ) × (r ≡ Found a m) × (halted (f a m) ≡ Some k)) ⊎ (halted r ≡ Some k)
+and_then_halted (Found a m) f k e = inl (a, m, refl, e)
+and_then_halted (Wrong i) f k e = inr e
+and_then_halted (Over i at) f k e = inr e
 
-and_then_over : {A B : Type 0} (r : Answer A) (f : A → ℕ → Answer B) (k : ℕ) → and_then r f ≡ Over k → ((a : A) × (m : ℕ) × (r ≡ Found a m) × (f a m ≡ Over k)) ⊎ (r ≡ Over k)
-and_then_over (Found a m) f k e = inl (a, m, refl, e)
-and_then_over (Wrong i) f k e = absurd (cc)
-and_then_over (Over i) f k e = let same : i ≡ k = cc in inr (ap Over same)
-
-over_then : {A B : Type 0} (r : Answer A) (f : A → ℕ → Answer B) → IsOver r → IsOver (and_then r f)
-over_then (Found a m) f h = absurd h
-over_then (Wrong k) f h = absurd h
-over_then (Over k) f h = tt
-
-stop_found : {A : Type 0} (a : A) (j : ℕ) (r : Answer A) → r ≡ Found a j → stop r ≡ j
-stop_found a j r e = ap stop e
-
-then_onward : {A B : Type 0} (i : ℕ) (r : Answer A) (f : A → ℕ → Answer B) → i ≤ stop r → ((a : A) (m : ℕ) → m ≤ stop (f a m)) → i ≤ stop (and_then r f)
+then_onward : {A B : Type 0} (i : ℕ) (r : Answer A) (f : A → ℕ → Answer B) → i ≤ reached r → ((a : A) (m : ℕ) → m ≤ reached (f a m)) → i ≤ reached (and_then r f)
 then_onward i (Found a m) f h g = let k = g a m in omega arith
 then_onward i (Wrong k) f h g = h
-then_onward i (Over k) f h g = h
+then_onward i (Over k at) f h g = h
+
+then_inside : {A B : Type 0} (P : ℕ → Type 0) (x : ℕ) (r : Answer A) (f : A → ℕ → Answer B) → x < reached (and_then r f) → (x < reached r → P x) → ((a : A) (m : ℕ) → m ≤ x → x < reached (f a m) → P x) → P x
+then_inside P x (Found a m) f high first rest = elim (cases_lt x m) [ inl h ↦ first h | inr h ↦ rest a m h high ]
+then_inside P x (Wrong k) f high first rest = first high
+then_inside P x (Over k at) f high first rest = first high
 
 then_local : {A B : Type 0} (s t : Text) (r r' : Answer A) (f : A → Parser B) → ((a : A) (m : ℕ) → m ≤ stop (f a s m))
     → ((a : A) (m : ℕ) → ((x : ℕ) → x ≤ stop (f a s m) → t x ≡ s x) → f a t m ≡ f a s m)
@@ -145,55 +157,53 @@ then_local s t (Found a m) r' f on loc first e =
     let k : m ≤ stop (f a s m) = on a m in
     ap (λ (r : Answer _). and_then r (λ a m. f a t m)) (first (λ x h. e x (omega arith))) ∙ loc a m e
 then_local s t (Wrong k) r' f on loc first e = ap (λ (r : Answer _). and_then r (λ a m. f a t m)) (first e)
-then_local s t (Over k) r' f on loc first e = ap (λ (r : Answer _). and_then r (λ a m. f a t m)) (first e)
+then_local s t (Over k at) r' f on loc first e = ap (λ (r : Answer _). and_then r (λ a m. f a t m)) (first e)
 
-module _ {A B : Type 0} (n o : ℕ) (p : Parser A) (P : Rel A) (E : A → Terminal → Type 0) (S : A → Type 0) (f : A → Parser B) (Q : A → Rel B) (F : B → Terminal → Type 0) (T : B → Type 0) where
+module _ {A B : Type 0} (n o : ℕ) (p : Parser A) (P : Rel A) (E : A → Terminal → Type 0) (S : Span → A → Type 0) (f : A → Parser B) (Q : A → Rel B) (F : B → Terminal → Type 0) (T : Span → B → Type 0) where
   -- one rule and then another, where what may follow the second shows that the second may follow the first
   pub then_laws : Laws n p P E S → ((a : A) → Laws o (f a) (Q a) F T)
       → ((s : Text) (a : A) (m : ℕ) (b : B) (j : ℕ) → Q a s b m j → F b (terminal (s j)) → E a (terminal (s m)))
-      → ((s : Text) (a : A) (m : ℕ) (b : B) (j : ℕ) → Q a s b m j → S a → T b)
-      → ((s : Text) (a : A) (i m j : ℕ) → P s a i m → o + m ≤ j → n + i ≤ j)
+      → ((s : Text) (a : A) (m : ℕ) (b : B) (j : ℕ) → Q a s b m j → (at : Span) → S at a → T at b)
+      → ((s : Text) (a : A) (i m k : ℕ) → P s a i m → o + m ≤ k → n + i ≤ k)
       → Laws n (p >>= f) (Then P Q) F T
   then_laws u v fits raise moves = record {
     shape = then_shape P Q u.shape (λ a. (v a).shape);
     onward = λ s i. then_onward i (p s i) (λ a m. f a s m) (u.onward s i) (λ a m. (v a).onward s m);
-    local = λ s t i e. then_local s t (p s i) (p t i) f (λ a m. (v a).onward s m) (λ a m h. (v a).local s t m h) (u.local s t i) e;
+    local = λ s t i e. then_local s t (p s i) (p t i) f (λ a m. let h = (v a).onward s m in let k = reached_stop (f a s m) in omega arith) (λ a m h. (v a).local s t m h) (u.local s t i) e;
     sound = λ s i b j e.
         let w = and_then_found (p s i) (λ a m. f a s m) b j e in
         record { part = w.0; at = w.1; first = u.sound s i w.0 w.1 w.2; rest = (v w.0).sound s w.1 b j w.3 };
-    inside = λ s i b j e x low high.
-        let w = and_then_found (p s i) (λ a m. f a s m) b j e in
-        elim (cases_lt x w.1) [ inl h ↦ u.inside s i w.0 w.1 w.2 x low h | inr h ↦ (v w.0).inside s w.1 b j w.3 x h high ];
+    inside = λ s i x low high. then_inside (λ x. is_token (terminal (s x)) ≡ true) x (p s i) (λ a m. f a s m) high (u.inside s i x low) (λ a m below high. (v a).inside s m x below high);
     complete = λ s i b j d last. both s i b j d last (u.complete s i d.part d.at d.first (fits s d.part d.at b j d.rest last)) ((v d.part).complete s d.at b j d.rest last);
-    viable = λ s i k e. either s i k (and_then_wrong (p s i) (λ a m. f a s m) k e);
-    far = λ s i k e. far_at s i k (and_then_over (p s i) (λ a m. f a s m) k e);
+    viable = λ s i k e. either s i k (and_then_halted (p s i) (λ a m. f a s m) k e);
   }
     where
-      part_excuse : (s : Text) (i : ℕ) (b : B) (j : ℕ) (d : Then P Q s b i j) → Excuse n S d.part i d.at → Excuse n T b i j
-      part_excuse s i b j d (inl x) = inl (raise s d.part d.at b j d.rest x)
-      part_excuse s i b j d (inr x) = let h = (v d.part).shape.forward s b d.at j d.rest in inr (omega arith)
+      part_passed : (s : Text) (i : ℕ) (b : B) (j : ℕ) (d : Then P Q s b i j) → Passed n S (p s i) d.part i → Passed n T ((p >>= f) s i) b i
+      part_passed s i b j d x = record {
+        place = x.place;
+        node = x.node;
+        is = ap (λ (r : Answer A). and_then r (λ a m. f a s m)) x.is;
+        why = elim (x.why) [ inl h ↦ inl (raise s d.part d.at b j d.rest x.node h) | inr h ↦ inr h ];
+      }
 
-      rest_excuse : (s : Text) (i : ℕ) (b : B) (j : ℕ) (d : Then P Q s b i j) → Excuse o T b d.at j → Excuse n T b i j
-      rest_excuse s i b j d (inl x) = inl x
-      rest_excuse s i b j d (inr x) = inr (moves s d.part i d.at j d.first x)
+      rest_passed : (s : Text) (i : ℕ) (b : B) (j : ℕ) (d : Then P Q s b i j) → p s i ≡ Found d.part d.at → Passed o T (f d.part s d.at) b d.at → Passed n T ((p >>= f) s i) b i
+      rest_passed s i b j d found x = record {
+        place = x.place;
+        node = x.node;
+        is = ap (λ (r : Answer A). and_then r (λ a m. f a s m)) found ∙ x.is;
+        why = elim (x.why) [ inl h ↦ inl h | inr h ↦ inr (moves s d.part i d.at x.place d.first h) ];
+      }
 
       both : (s : Text) (i : ℕ) (b : B) (j : ℕ) (d : Then P Q s b i j) → F b (terminal (s j)) → Outcome n S (p s i) d.part i d.at
           → Outcome o T (f d.part s d.at) b d.at j → Outcome n T ((p >>= f) s i) b i j
       both s i b j d last (inl x) (inl y) = inl (ap (λ (r : Answer A). and_then r (λ a m. f a s m)) x ∙ y)
-      both s i b j d last (inl x) (inr y) = inr (subst (λ (r : Answer A). IsOver (and_then r (λ a m. f a s m))) (sym x) y.0, rest_excuse s i b j d y.1)
-      both s i b j d last (inr x) y = inr (over_then (p s i) (λ a m. f a s m) x.0, part_excuse s i b j d x.1)
+      both s i b j d last (inl x) (inr y) = inr (rest_passed s i b j d x y)
+      both s i b j d last (inr x) y = inr (part_passed s i b j d x)
 
-      far_at : (s : Text) (i k : ℕ) → ((a : A) × (m : ℕ) × (p s i ≡ Found a m) × (f a s m ≡ Over k)) ⊎ (p s i ≡ Over k) → suc (suc (suc (suc i))) ≤ k
-      far_at s i k (inl w) =
-          let h = (v w.0).far s w.1 k w.3 in
-          let m : i ≤ w.1 = subst (λ (x : ℕ). i ≤ x) (ap stop w.2) (u.onward s i) in
-          omega arith
-      far_at s i k (inr e) = u.far s i k e
-
-      either : (s : Text) (i k : ℕ) → ((a : A) × (m : ℕ) × (p s i ≡ Found a m) × (f a s m ≡ Wrong k)) ⊎ (p s i ≡ Wrong k) → Completes (Then P Q) s i k
+      either : (s : Text) (i k : ℕ) → ((a : A) × (m : ℕ) × (p s i ≡ Found a m) × (halted (f a s m) ≡ Some k)) ⊎ (halted (p s i) ≡ Some k) → Completes (Then P Q) s i k
       either s i k (inl w) =
           let c = (v w.0).viable s w.1 k w.3 in
-          let le : w.1 ≤ k = subst (λ (x : ℕ). w.1 ≤ x) (ap stop w.3) ((v w.0).onward s w.1) in
+          let le : w.1 ≤ k = subst (λ (x : ℕ). w.1 ≤ x) (halted_reached (f w.0 s w.1) k w.3) ((v w.0).onward s w.1) in
           let d = u.sound s i w.0 w.1 w.2 in
           record {
             text = c.text;
@@ -224,9 +234,9 @@ module _ {A B : Type 0} (n o : ℕ) (p : Parser A) (P : Rel A) (E : A → Termin
 
 -- ---- another relation that says the same, and another condition on what follows
 
-module _ {A : Type 0} (n o : ℕ) (p : Parser A) (P : Rel A) (E : A → Terminal → Type 0) (S : A → Type 0) (Q : Rel A) (F : A → Terminal → Type 0) (T : A → Type 0) where
+module _ {A : Type 0} (n o : ℕ) (p : Parser A) (P : Rel A) (E : A → Terminal → Type 0) (S : Span → A → Type 0) (Q : Rel A) (F : A → Terminal → Type 0) (T : Span → A → Type 0) where
   pub same_laws : Laws n p P E S → ((s : Text) (a : A) (i j : ℕ) → P s a i j → Q s a i j) → ((s : Text) (a : A) (i j : ℕ) → Q s a i j → P s a i j)
-      → ((a : A) (k : Terminal) → F a k → E a k) → ((a : A) → S a → T a) → o ≤ n → Laws o p Q F T
+      → ((a : A) (k : Terminal) → F a k → E a k) → ((a : A) (at : Span) → S at a → T at a) → o ≤ n → Laws o p Q F T
   same_laws u to from less grow fewer = record {
     shape = record {
       forward = λ s a i j d. u.shape.forward s a i j (from s a i j d);
@@ -239,12 +249,11 @@ module _ {A : Type 0} (n o : ℕ) (p : Parser A) (P : Rel A) (E : A → Terminal
     inside = u.inside;
     complete = λ s i a j d last. excused s i a j (u.complete s i a j (from s a i j d) (less a (terminal (s j)) last));
     viable = λ s i k e. carry s i k (u.viable s i k e);
-    far = u.far;
   }
     where
       excused : (s : Text) (i : ℕ) (a : A) (j : ℕ) → Outcome n S (p s i) a i j → Outcome o T (p s i) a i j
       excused s i a j (inl x) = inl x
-      excused s i a j (inr x) = inr (x.0, elim (x.1) [ inl y ↦ inl (grow a y) | inr y ↦ inr (omega arith) ])
+      excused s i a j (inr x) = inr (record { place = x.place; node = x.node; is = x.is; why = elim (x.why) [ inl y ↦ inl (grow a x.node y) | inr y ↦ inr (omega arith) ] })
 
       carry : (s : Text) (i k : ℕ) → Completes P s i k → Completes Q s i k
       carry s i k c = record { text = c.text; tree = c.tree; after = c.after; same = c.same; beyond = c.beyond; stands = to c.text c.tree i c.after c.stands }
@@ -255,7 +264,7 @@ pub record Same {A : Type 0} (b : A) (s : Text) (a : A) (i j : ℕ) : Type 0 whe
   pub tree : a ≡ b
   pub at : j ≡ i
 
-pub pure_laws : {A : Type 0} (n : ℕ) (b : A) (E : A → Terminal → Type 0) (T : A → Type 0) → Laws n (pure b) (Same b) E T
+pub pure_laws : {A : Type 0} (n : ℕ) (b : A) (E : A → Terminal → Type 0) (T : Span → A → Type 0) → Laws n (pure b) (Same b) E T
 pure_laws n b E T = record {
   shape = record {
     forward = λ s a i j d. let e = d.at in omega arith;
@@ -265,31 +274,33 @@ pure_laws n b E T = record {
   onward = λ s i. le_refl i;
   local = λ s t i e. refl;
   sound = λ s i a j e. record { tree = cc; at = cc };
-  inside = λ s i a j e x low high. let here : i ≡ j = cc in absurd (omega arith);
+  inside = λ s i x low high. absurd (omega arith);
   complete = λ s i a j d last. let e = d.tree in let e2 = d.at in inl (cc);
   viable = λ s i k e. absurd (cc);
-  far = λ s i k e. absurd (cc);
 }
 
-over_at : {A : Type 0} (m k : ℕ) → ◌≡◌ {A = Answer A} (Over m) (Over k) → m ≡ k
-over_at m k e = ap stop e
-
-pub over_laws : {A : Type 0} (n : ℕ) (D : Rel A) (E : A → Terminal → Type 0) (T : A → Type 0) → Shape D → ((s : Text) (a : A) (i j : ℕ) → D s a i j → Excuse n T a i j) → Laws n over D E T
-over_laws n D E T shape excuse = record {
+pub over_laws : {A : Type 0} (n : ℕ) (place : ℕ → Span) (D : Rel A) (E : A → Terminal → Type 0) (T : Span → A → Type 0) → Shape D → ((s : Text) (a : A) (i j : ℕ) → D s a i j → T (place i) a ⊎ (n + i ≤ i))
+    → Laws n (over place) D E T
+over_laws n place D E T shape excuse = record {
   shape = shape;
-  onward = λ s i. omega arith;
+  onward = λ s i. le_refl i;
   local = λ s t i e. refl;
   sound = λ s i a j e. absurd (cc);
-  inside = λ s i a j e x low high. absurd (cc);
-  complete = λ s i a j d last. inr (tt, excuse s a i j d);
-  viable = λ s i k e. absurd (cc);
-  far = λ s i k e. let same : suc (suc (suc (suc i))) ≡ k = over_at _ _ e in omega arith;
+  inside = λ s i x low high. absurd (omega arith);
+  complete = λ s i a j d last. inr (record { place = i; node = place i; is = refl; why = excuse s a i j d });
+  viable = λ s i k e. let here : i ≡ k = cc in subst (λ (x : ℕ). Completes D s i x) here (shape.some s i);
 }
 
+-- a rule that stops where there is such a node, which is then too deep in each tree of the rule
+pub unless_deep_laws : {A : Type 0} {n : ℕ} {p : Parser A} {D : Rel A} {E : A → Terminal → Type 0} {T : Span → A → Type 0} (x : Option Span) → Laws n p D E T
+    → ((at : Span) → x ≡ Some at → (s : Text) (a : A) (i j : ℕ) → D s a i j → T at a) → Laws n (unless_deep x p) D E T
+unless_deep_laws None u deep = u
+unless_deep_laws {n} {D} {E} {T} (Some at) u deep = over_laws n (λ _. at) D E T u.shape (λ s a i j d. inl (deep at refl s a i j d))
+
 -- a token more before it
-pub later_excuse : {A : Type 0} (n : ℕ) (T : A → Type 0) (r : Answer A) (a : A) (i j : ℕ) → Outcome n T r a (suc i) j → Outcome n T r a i j
-later_excuse n T r a i j (inl x) = inl x
-later_excuse n T r a i j (inr x) = inr (x.0, elim (x.1) [ inl y ↦ inl y | inr y ↦ inr (omega arith) ])
+pub later : {A : Type 0} (n : ℕ) (T : Span → A → Type 0) (r : Answer A) (a : A) (i j : ℕ) → Outcome n T r a (suc i) j → Outcome n T r a i j
+later n T r a i j (inl x) = inl x
+later n T r a i j (inr x) = inr (record { place = x.place; node = x.node; is = x.is; why = elim (x.why) [ inl y ↦ inl y | inr y ↦ inr (omega arith) ] })
 
 -- ---- a token
 
@@ -333,25 +344,20 @@ module _ {A : Type 0} (k : Terminal) (real : is_token k ≡ true) (Q : List ℕ 
         };
   }
 
-module _ {A : Type 0} (n : ℕ) (k : Terminal) (real : is_token k ≡ true) (q : List ℕ → Parser A) (Q : List ℕ → Rel A) (E : A → Terminal → Type 0) (T : A → Type 0) where
+module _ {A : Type 0} (n : ℕ) (k : Terminal) (real : is_token k ≡ true) (q : List ℕ → Parser A) (Q : List ℕ → Rel A) (E : A → Terminal → Type 0) (T : Span → A → Type 0) where
   pub word_laws : ((v : List ℕ) → Laws n (q v) (Q v) E T) → Laws n (word k q) (Word k Q) E T
   word_laws u = record {
     shape = word_shape k real Q (λ v. (u v).shape);
     onward = λ s i. onward_at s i (same_terminal (terminal (s i)) k);
     local = λ s t i e. local_at s t i (same_terminal (terminal (s i)) k) refl e;
     sound = λ s i a j e. sound_at s i a j (same_terminal (terminal (s i)) k) refl e;
-    inside = λ s i a j e x low high. inside_at s i a j (same_terminal (terminal (s i)) k) refl e x low high;
+    inside = λ s i x low high. inside_at s i x (same_terminal (terminal (s i)) k) refl low high;
     complete = λ s i a j d last. subst (λ (b : Bool). Outcome n T (cond b (q (s i).text s (suc i)) (Wrong i)) a i j)
-        (sym (is_kind (terminal (s i)) k d.kind)) (later_excuse n T _ a i j ((u (s i).text).complete s (suc i) a j d.rest last));
+        (sym (is_kind (terminal (s i)) k d.kind)) (later n T _ a i j ((u (s i).text).complete s (suc i) a j d.rest last));
     viable = λ s i o e. viable_at s i o (same_terminal (terminal (s i)) k) refl e;
-    far = λ s i o e. far_at s i o (same_terminal (terminal (s i)) k) e;
   }
     where
-      far_at : (s : Text) (i o : ℕ) (b : Bool) → cond b (q (s i).text s (suc i)) (Wrong i) ≡ Over o → suc (suc (suc (suc i))) ≤ o
-      far_at s i o true e = let h = (u (s i).text).far s (suc i) o e in omega arith
-      far_at s i o false e = absurd (cc)
-
-      onward_at : (s : Text) (i : ℕ) (b : Bool) → i ≤ stop (cond b (q (s i).text s (suc i)) (Wrong i))
+      onward_at : (s : Text) (i : ℕ) (b : Bool) → i ≤ reached (cond b (q (s i).text s (suc i)) (Wrong i))
       onward_at s i true = let h = (u (s i).text).onward s (suc i) in omega arith
       onward_at s i false = le_refl i
 
@@ -359,6 +365,7 @@ module _ {A : Type 0} (n : ℕ) (k : Terminal) (real : is_token k ≡ true) (q :
           → word k q t i ≡ cond b (q (s i).text s (suc i)) (Wrong i)
       local_at s t i true is e =
           let h = (u (s i).text).onward s (suc i) in
+          let near = reached_stop (q (s i).text s (suc i)) in
           let here : t i ≡ s i = e i (omega arith) in
           ap (λ (x : Token). cond (same_terminal (terminal x) k) (q x.text t (suc i)) (Wrong i)) here
           ∙ ap (λ (b : Bool). cond b (q (s i).text t (suc i)) (Wrong i)) is ∙ (u (s i).text).local s t (suc i) e
@@ -371,19 +378,18 @@ module _ {A : Type 0} (n : ℕ) (k : Terminal) (real : is_token k ≡ true) (q :
       sound_at s i a j true is e = record { kind = kind_is (terminal (s i)) k is; rest = (u (s i).text).sound s (suc i) a j e }
       sound_at s i a j false is e = absurd (cc)
 
-      inside_at : (s : Text) (i : ℕ) (a : A) (j : ℕ) (b : Bool) → same_terminal (terminal (s i)) k ≡ b → cond b (q (s i).text s (suc i)) (Wrong i) ≡ Found a j
-          → (x : ℕ) → i ≤ x → x < j → is_token (terminal (s x)) ≡ true
-      inside_at s i a j true is e x low high =
+      inside_at : (s : Text) (i x : ℕ) (b : Bool) → same_terminal (terminal (s i)) k ≡ b → i ≤ x → x < reached (cond b (q (s i).text s (suc i)) (Wrong i)) → is_token (terminal (s x)) ≡ true
+      inside_at s i x true is low high =
           elim (cases_lt i x) [
-            | inl h ↦ (u (s i).text).inside s (suc i) a j e x h high
+            | inl h ↦ (u (s i).text).inside s (suc i) x h high
             | inr h ↦ (let here : i ≡ x = omega arith in ap (λ (m : ℕ). is_token (terminal (s m))) (sym here) ∙ (ap is_token (kind_is (terminal (s i)) k is) ∙ real))
           ]
-      inside_at s i a j false is e x low high = absurd (cc)
+      inside_at s i x false is low high = absurd (omega arith)
 
-      viable_at : (s : Text) (i o : ℕ) (b : Bool) → same_terminal (terminal (s i)) k ≡ b → cond b (q (s i).text s (suc i)) (Wrong i) ≡ Wrong o → Completes (Word k Q) s i o
+      viable_at : (s : Text) (i o : ℕ) (b : Bool) → same_terminal (terminal (s i)) k ≡ b → halted (cond b (q (s i).text s (suc i)) (Wrong i)) ≡ Some o → Completes (Word k Q) s i o
       viable_at s i o true is e =
           let c = (u (s i).text).viable s (suc i) o e in
-          let le : suc i ≤ o = subst (λ (x : ℕ). suc i ≤ x) (ap stop e) ((u (s i).text).onward s (suc i)) in
+          let le : suc i ≤ o = subst (λ (x : ℕ). suc i ≤ x) (halted_reached _ o e) ((u (s i).text).onward s (suc i)) in
           let here : c.text i ≡ s i = c.same i (omega arith) in
           record {
             text = c.text;
@@ -402,7 +408,7 @@ module _ {A : Type 0} (n : ℕ) (k : Terminal) (real : is_token k ≡ true) (q :
 
 -- ---- where a rule begins
 
-module _ {A : Type 0} (n : ℕ) (f : ℕ → Parser A) (D : ℕ → Rel A) (E : A → Terminal → Type 0) (T : A → Type 0) where
+module _ {A : Type 0} (n : ℕ) (f : ℕ → Parser A) (D : ℕ → Rel A) (E : A → Terminal → Type 0) (T : Span → A → Type 0) where
   pub here_laws : ((i : ℕ) → Laws n (f i) (D i) E T) → Laws n (here f) (λ s a i j. D i s a i j) E T
   here_laws u = record {
     shape = record {
@@ -414,11 +420,10 @@ module _ {A : Type 0} (n : ℕ) (f : ℕ → Parser A) (D : ℕ → Rel A) (E : 
     onward = λ s i. (u i).onward s i;
     local = λ s t i e. (u i).local s t i e;
     sound = λ s i a j e. (u i).sound s i a j e;
-    inside = λ s i a j e. (u i).inside s i a j e;
+    inside = λ s i. (u i).inside s i;
     complete = λ s i a j d last. (u i).complete s i a j d last;
     viable = λ s i k e. let c = (u i).viable s i k e in
         record { text = c.text; tree = c.tree; after = c.after; same = c.same; beyond = c.beyond; stands = c.stands };
-    far = λ s i k e. (u i).far s i k e;
   }
 
 -- ---- an operator
@@ -454,25 +459,20 @@ module _ {A : Type 0} (test : Terminal → Bool) (k : Terminal) (real : is_token
   }
 
 module _ {A : Type 0} (n : ℕ) (test : Terminal → Bool) (k : Terminal) (real : is_token k ≡ true) (is_one : test k ≡ true) (tokens : (x : Terminal) → test x ≡ true → is_token x ≡ true)
-    (q : Token → Parser A) (Q : Token → Rel A) (E : A → Terminal → Type 0) (T : A → Type 0) where
+    (q : Token → Parser A) (Q : Token → Rel A) (E : A → Terminal → Type 0) (T : Span → A → Type 0) where
   pub operator_laws : ((v : Token) → Laws n (q v) (Q v) E T) → Laws n (operator test q) (Operator test Q) E T
   operator_laws u = record {
     shape = operator_shape test k real is_one Q (λ v. (u v).shape);
     onward = λ s i. onward_at s i (test (terminal (s i)));
     local = λ s t i e. local_at s t i (test (terminal (s i))) refl e;
     sound = λ s i a j e. sound_at s i a j (test (terminal (s i))) refl e;
-    inside = λ s i a j e x low high. inside_at s i a j (test (terminal (s i))) refl e x low high;
+    inside = λ s i x low high. inside_at s i x (test (terminal (s i))) refl low high;
     complete = λ s i a j d last. subst (λ (b : Bool). Outcome n T (cond b (q (s i) s (suc i)) (Wrong i)) a i j)
-        (sym (d.kind)) (later_excuse n T _ a i j ((u (s i)).complete s (suc i) a j d.rest last));
+        (sym (d.kind)) (later n T _ a i j ((u (s i)).complete s (suc i) a j d.rest last));
     viable = λ s i o e. viable_at s i o (test (terminal (s i))) refl e;
-    far = λ s i o e. far_at s i o (test (terminal (s i))) e;
   }
     where
-      far_at : (s : Text) (i o : ℕ) (b : Bool) → cond b (q (s i) s (suc i)) (Wrong i) ≡ Over o → suc (suc (suc (suc i))) ≤ o
-      far_at s i o true e = let h = (u (s i)).far s (suc i) o e in omega arith
-      far_at s i o false e = absurd (cc)
-
-      onward_at : (s : Text) (i : ℕ) (b : Bool) → i ≤ stop (cond b (q (s i) s (suc i)) (Wrong i))
+      onward_at : (s : Text) (i : ℕ) (b : Bool) → i ≤ reached (cond b (q (s i) s (suc i)) (Wrong i))
       onward_at s i true = let h = (u (s i)).onward s (suc i) in omega arith
       onward_at s i false = le_refl i
 
@@ -480,6 +480,7 @@ module _ {A : Type 0} (n : ℕ) (test : Terminal → Bool) (k : Terminal) (real 
           → operator test q t i ≡ cond b (q (s i) s (suc i)) (Wrong i)
       local_at s t i true is e =
           let h = (u (s i)).onward s (suc i) in
+          let k = reached_stop (q (s i) s (suc i)) in
           let here : t i ≡ s i = e i (omega arith) in
           ap (λ (x : Token). cond (test (terminal x)) (q x t (suc i)) (Wrong i)) here
           ∙ ap (λ (b : Bool). cond b (q (s i) t (suc i)) (Wrong i)) is ∙ (u (s i)).local s t (suc i) e
@@ -492,19 +493,18 @@ module _ {A : Type 0} (n : ℕ) (test : Terminal → Bool) (k : Terminal) (real 
       sound_at s i a j true is e = record { kind = is; rest = (u (s i)).sound s (suc i) a j e }
       sound_at s i a j false is e = absurd (cc)
 
-      inside_at : (s : Text) (i : ℕ) (a : A) (j : ℕ) (b : Bool) → test (terminal (s i)) ≡ b → cond b (q (s i) s (suc i)) (Wrong i) ≡ Found a j
-          → (x : ℕ) → i ≤ x → x < j → is_token (terminal (s x)) ≡ true
-      inside_at s i a j true is e x low high =
+      inside_at : (s : Text) (i x : ℕ) (b : Bool) → test (terminal (s i)) ≡ b → i ≤ x → x < reached (cond b (q (s i) s (suc i)) (Wrong i)) → is_token (terminal (s x)) ≡ true
+      inside_at s i x true is low high =
           elim (cases_lt i x) [
-            | inl h ↦ (u (s i)).inside s (suc i) a j e x h high
+            | inl h ↦ (u (s i)).inside s (suc i) x h high
             | inr h ↦ (let here : i ≡ x = omega arith in ap (λ (m : ℕ). is_token (terminal (s m))) (sym here) ∙ tokens (terminal (s i)) is)
           ]
-      inside_at s i a j false is e x low high = absurd (cc)
+      inside_at s i x false is low high = absurd (omega arith)
 
-      viable_at : (s : Text) (i o : ℕ) (b : Bool) → test (terminal (s i)) ≡ b → cond b (q (s i) s (suc i)) (Wrong i) ≡ Wrong o → Completes (Operator test Q) s i o
+      viable_at : (s : Text) (i o : ℕ) (b : Bool) → test (terminal (s i)) ≡ b → halted (cond b (q (s i) s (suc i)) (Wrong i)) ≡ Some o → Completes (Operator test Q) s i o
       viable_at s i o true is e =
           let c = (u (s i)).viable s (suc i) o e in
-          let le : suc i ≤ o = subst (λ (x : ℕ). suc i ≤ x) (ap stop e) ((u (s i)).onward s (suc i)) in
+          let le : suc i ≤ o = subst (λ (x : ℕ). suc i ≤ x) (halted_reached _ o e) ((u (s i)).onward s (suc i)) in
           let here : c.text i ≡ s i = c.same i (omega arith) in
           record {
             text = c.text;
@@ -535,7 +535,7 @@ module _ {A : Type 0} (P Q : Rel A) where
         record { text = c.text; tree = c.tree; after = c.after; same = c.same; beyond = c.beyond; stands = inr c.stands };
   }
 
-module _ {A : Type 0} (n : ℕ) (test : Text → ℕ → Bool) (p q : Parser A) (P Q : Rel A) (E : A → Terminal → Type 0) (T : A → Type 0) where
+module _ {A : Type 0} (n : ℕ) (test : Text → ℕ → Bool) (p q : Parser A) (P Q : Rel A) (E : A → Terminal → Type 0) (T : Span → A → Type 0) where
   -- The test looks at no token after the one where the reader stops. It tells the two rules apart where what follows may follow.
   pub ahead_laws : Laws n p P E T → Laws n q Q E T
       → ((s t : Text) (i : ℕ) → ((x : ℕ) → x ≤ stop (ahead test p q s i) → t x ≡ s x) → test t i ≡ test s i)
@@ -547,17 +547,12 @@ module _ {A : Type 0} (n : ℕ) (test : Text → ℕ → Bool) (p q : Parser A) 
     onward = λ s i. onward_at s i (test s i);
     local = λ s t i e. ap (λ (b : Bool). cond b (p t i) (q t i)) (seen s t i e) ∙ local_at s t i (test s i) e;
     sound = λ s i a j e. sound_at s i a j (test s i) e;
-    inside = λ s i a j e. inside_at s i a j (test s i) e;
+    inside = λ s i x. inside_at s i x (test s i);
     complete = λ s i a j d last. complete_at s i a j last d;
     viable = λ s i k e. viable_at s i k (test s i) e;
-    far = λ s i k e. far_at s i k (test s i) e;
   }
     where
-      far_at : (s : Text) (i k : ℕ) (b : Bool) → cond b (p s i) (q s i) ≡ Over k → suc (suc (suc (suc i))) ≤ k
-      far_at s i k true e = u.far s i k e
-      far_at s i k false e = v.far s i k e
-
-      onward_at : (s : Text) (i : ℕ) (b : Bool) → i ≤ stop (cond b (p s i) (q s i))
+      onward_at : (s : Text) (i : ℕ) (b : Bool) → i ≤ reached (cond b (p s i) (q s i))
       onward_at s i true = u.onward s i
       onward_at s i false = v.onward s i
 
@@ -569,29 +564,29 @@ module _ {A : Type 0} (n : ℕ) (test : Text → ℕ → Bool) (p q : Parser A) 
       sound_at s i a j true e = inl (u.sound s i a j e)
       sound_at s i a j false e = inr (v.sound s i a j e)
 
-      inside_at : (s : Text) (i : ℕ) (a : A) (j : ℕ) (b : Bool) → cond b (p s i) (q s i) ≡ Found a j → (x : ℕ) → i ≤ x → x < j → is_token (terminal (s x)) ≡ true
-      inside_at s i a j true e = u.inside s i a j e
-      inside_at s i a j false e = v.inside s i a j e
+      inside_at : (s : Text) (i x : ℕ) (b : Bool) → i ≤ x → x < reached (cond b (p s i) (q s i)) → is_token (terminal (s x)) ≡ true
+      inside_at s i x true low high = u.inside s i x low high
+      inside_at s i x false low high = v.inside s i x low high
 
       complete_at : (s : Text) (i : ℕ) (a : A) (j : ℕ) → E a (terminal (s j)) → Either P Q s a i j → Outcome n T (ahead test p q s i) a i j
       complete_at s i a j last (inl x) = subst (λ (b : Bool). Outcome n T (cond b (p s i) (q s i)) a i j) (sym (first s a i j x last)) (u.complete s i a j x last)
       complete_at s i a j last (inr y) = subst (λ (b : Bool). Outcome n T (cond b (p s i) (q s i)) a i j) (sym (second s a i j y last)) (v.complete s i a j y last)
 
-      viable_at : (s : Text) (i k : ℕ) (b : Bool) → cond b (p s i) (q s i) ≡ Wrong k → Completes (Either P Q) s i k
+      viable_at : (s : Text) (i k : ℕ) (b : Bool) → halted (cond b (p s i) (q s i)) ≡ Some k → Completes (Either P Q) s i k
       viable_at s i k true e = let c = u.viable s i k e in
           record { text = c.text; tree = c.tree; after = c.after; same = c.same; beyond = c.beyond; stands = inl c.stands }
       viable_at s i k false e = let c = v.viable s i k e in
           record { text = c.text; tree = c.tree; after = c.after; same = c.same; beyond = c.beyond; stands = inr c.stands }
 
-module _ {A : Type 0} (n : ℕ) (test : Terminal → Bool) (p q : Parser A) (P Q : Rel A) (E : A → Terminal → Type 0) (T : A → Type 0) where
+module _ {A : Type 0} (n : ℕ) (test : Terminal → Bool) (p q : Parser A) (P Q : Rel A) (E : A → Terminal → Type 0) (T : Span → A → Type 0) where
   pub choose_laws : Laws n p P E T → Laws n q Q E T
       → ((s : Text) (a : A) (i j : ℕ) → P s a i j → E a (terminal (s j)) → test (terminal (s i)) ≡ true)
       → ((s : Text) (a : A) (i j : ℕ) → Q s a i j → E a (terminal (s j)) → test (terminal (s i)) ≡ false)
       → Laws n (choose test p q) (Either P Q) E T
   choose_laws u v first second = ahead_laws n (λ s i. test (terminal (s i))) p q P Q E T u v
-      (λ s t i e. ap (λ (x : Token). test (terminal x)) (e i (onward_at s i (test (terminal (s i)))))) first second
+      (λ s t i e. ap (λ (x : Token). test (terminal x)) (e i (let h = onward_at s i (test (terminal (s i))) in let k = reached_stop (choose test p q s i) in omega arith))) first second
     where
-      onward_at : (s : Text) (i : ℕ) (b : Bool) → i ≤ stop (cond b (p s i) (q s i))
+      onward_at : (s : Text) (i : ℕ) (b : Bool) → i ≤ reached (cond b (p s i) (q s i))
       onward_at s i true = u.onward s i
       onward_at s i false = v.onward s i
 
@@ -623,12 +618,12 @@ module _ {A : Type 0} (Q : A → Rel A) (shapes : (a : A) → Shape (Q a)) where
     some = λ s i. record { text = s; tree = x; after = i; same = λ z h. refl; beyond = le_refl i; stands = done refl refl };
   }
 
-module _ {A : Type 0} (big : ℕ) (test : Terminal → Bool) (step : A → Parser A) (Q : A → Rel A) (E : A → Terminal → Type 0) (T : A → Type 0)
+module _ {A : Type 0} (big : ℕ) (test : Terminal → Bool) (step : A → Parser A) (Q : A → Rel A) (E : A → Terminal → Type 0) (T : Span → A → Type 0)
     (parts : (a : A) → Laws big (step a) (Q a) E T)
     (begins : (s : Text) (x a : A) (i j : ℕ) → Q x s a i j → test (terminal (s i)) ≡ true)
     (strict : (s : Text) (x a : A) (i j : ℕ) → Q x s a i j → i < j)
     (follows : (s : Text) (x a : A) (i j : ℕ) → Q x s a i j → E x (terminal (s i)))
-    (grows : (s : Text) (x a : A) (i j : ℕ) → Q x s a i j → T x → T a) where
+    (grows : (s : Text) (x a : A) (i j : ℕ) → Q x s a i j → (at : Span) → T at x → T at a) where
   -- what may follow the loop is what may follow a step, and does not begin another
   abbrev pub Stops : A → Terminal → Type 0
   Stops a k = E a k × (test k ≡ false)
@@ -641,9 +636,9 @@ module _ {A : Type 0} (big : ℕ) (test : Terminal → Bool) (step : A → Parse
   roll s x a i j (inl d) = more d.first d.rest
   roll s x a i j (inr d) = done d.tree d.at
 
-  pub steps_grow : (s : Text) (x a : A) (i j : ℕ) → Steps Q s x a i j → T x → T a
-  steps_grow s x a i j (done e e2) h = subst T (sym e) h
-  steps_grow s x a i j (more {y} {m} q r) h = steps_grow s y a m j r (grows s x y i m q h)
+  pub steps_grow : (s : Text) (x a : A) (i j : ℕ) → Steps Q s x a i j → (at : Span) → T at x → T at a
+  steps_grow s x a i j (done e e2) at h = subst (T at) (sym e) h
+  steps_grow s x a i j (more {y} {m} q r) at h = steps_grow s y a m j r at (grows s x y i m q at h)
 
   -- what stands after a step: another step, or what may follow the loop
   pub after_step : (s : Text) (y a : A) (m j : ℕ) → Steps Q s y a m j → Stops a (terminal (s j)) → E y (terminal (s m))
@@ -659,23 +654,23 @@ module _ {A : Type 0} (big : ℕ) (test : Terminal → Bool) (step : A → Parse
   pub loop_laws : (n : ℕ) → n ≤ big → (x : A) → Laws n (loop n test step x) (λ s a i j. Steps Q s x a i j) Stops T
   unfolding loop
   loop_laws zero small x = same_laws zero zero (loop zero test step x) (Either (Then (Q x) (λ y t b m k. Steps Q t y b m k)) (Same x)) Stops T (λ s a i j. Steps Q s x a i j) Stops T
-      (choose_laws zero test over (pure x) (Then (Q x) (λ y t b m k. Steps Q t y b m k)) (Same x) Stops T
-      (over_laws zero (Then (Q x) (λ y t b m k. Steps Q t y b m k)) Stops T (then_shape (Q x) (λ y t b m k. Steps Q t y b m k) (parts x).shape (steps_shape Q (λ a. (parts a).shape)))
-      (λ s a i j d. let h = strict s x d.part i d.at d.first in let k = (steps_shape Q (λ a. (parts a).shape) d.part).forward s a d.at j d.rest in inr (omega arith)))
+      (choose_laws zero test (over (λ _. nowhere)) (pure x) (Then (Q x) (λ y t b m k. Steps Q t y b m k)) (Same x) Stops T
+      (over_laws zero (λ _. nowhere) (Then (Q x) (λ y t b m k. Steps Q t y b m k)) Stops T (then_shape (Q x) (λ y t b m k. Steps Q t y b m k) (parts x).shape (steps_shape Q (λ a. (parts a).shape)))
+      (λ s a i j d. inr (omega arith)))
       (pure_laws zero x Stops T)
       (λ s a i j. some_step s x a i j) (λ s a i j. no_step s x a i j))
-      (λ s a i j. roll s x a i j) (λ s a i j. unroll s x a i j) (λ a k h. h) (λ a h. h) (le_refl zero)
+      (λ s a i j. roll s x a i j) (λ s a i j. unroll s x a i j) (λ a k h. h) (λ a at h. h) (le_refl zero)
   loop_laws (suc n) small x = same_laws (suc n) (suc n) (loop (suc n) test step x) (Either (Then (Q x) (λ y t b m k. Steps Q t y b m k)) (Same x)) Stops T (λ s a i j. Steps Q s x a i j) Stops T
       (choose_laws (suc n) test (step x >>= loop n test step) (pure x) (Then (Q x) (λ y t b m k. Steps Q t y b m k)) (Same x) Stops T
       (then_laws (suc n) n (step x) (Q x) E T (loop n test step) (λ y t b m k. Steps Q t y b m k) Stops T
-      (same_laws big (suc n) (step x) (Q x) E T (Q x) E T (parts x) (λ s a i j d. d) (λ s a i j d. d) (λ a k h. h) (λ a h. h) small)
+      (same_laws big (suc n) (step x) (Q x) E T (Q x) E T (parts x) (λ s a i j d. d) (λ s a i j d. d) (λ a k h. h) (λ a at h. h) small)
       (λ y. loop_laws n (omega arith) y)
       (λ s y m a j d last. after_step s y a m j d last)
-      (λ s y m a j d h. steps_grow s y a m j d h)
+      (λ s y m a j d at h. steps_grow s y a m j d at h)
       (λ s y i m j d h. let k = strict s x y i m d in omega arith))
       (pure_laws (suc n) x Stops T)
       (λ s a i j. some_step s x a i j) (λ s a i j. no_step s x a i j))
-      (λ s a i j. roll s x a i j) (λ s a i j. unroll s x a i j) (λ a k h. h) (λ a h. h) (le_refl (suc n))
+      (λ s a i j. roll s x a i j) (λ s a i j. unroll s x a i j) (λ a k h. h) (λ a at h. h) (le_refl (suc n))
 
 -- ---- a rule and then a loop stand for a rule that begins with itself
 
@@ -693,18 +688,16 @@ module _ {A : Type 0} (Q : A → Rel A) where
 
 -- ---- a reader of a text that is read goes on past what it shares with it
 
-pub reaches : {A : Type 0} (n : ℕ) (p : Parser A) (D : Rel A) (E : A → Terminal → Type 0) (T : A → Type 0) (u : Laws n p D E T) (s t : Text) (i k : ℕ) (a : A) (j : ℕ)
+pub reaches : {A : Type 0} (n : ℕ) (p : Parser A) (D : Rel A) (E : A → Terminal → Type 0) (T : Span → A → Type 0) (u : Laws n p D E T) (s t : Text) (i k : ℕ) (a : A) (j : ℕ)
     → ((x : ℕ) → x ≤ k → t x ≡ s x) → D t a i j → E a (terminal (t j)) → k < j → k ≤ suc (suc (suc i)) → k < stop (p s i)
 reaches n p D E T u s t i k a j same d last below near = of (cases_lt k (stop (p s i)))
   where
     found : stop (p s i) ≤ k → Outcome n T (p t i) a i j → p t i ≡ p s i → ⊥
     found le (inl e) same_answer = let at : stop (p s i) ≡ j = ap stop (sym same_answer ∙ e) in absurd (omega arith)
-    found le (inr e) same_answer = is_over (p s i) refl (subst IsOver same_answer e.0)
-      where
-        is_over : (r : Answer _) → p s i ≡ r → IsOver r → ⊥
-        is_over (Found b m) is h = h
-        is_over (Wrong m) is h = h
-        is_over (Over m) is h = let f = u.far s i m is in let at : stop (p s i) ≡ m = ap stop is in absurd (omega arith)
+    found le (inr x) same_answer =
+        let forth : i ≤ x.place = subst (λ (r : Answer _). i ≤ reached r) (sym same_answer ∙ x.is) (u.onward s i) in
+        let at : stop (p s i) ≡ suc (suc (suc (suc x.place))) = ap stop (sym same_answer ∙ x.is) in
+        absurd (omega arith)
 
     of : (k < stop (p s i)) ⊎ (stop (p s i) ≤ k) → k < stop (p s i)
     of (inl h) = h
@@ -712,50 +705,50 @@ reaches n p D E T u s t i k a j same d last below near = of (cases_lt k (stop (p
 
 -- ---- the same with arguments that the parts show
 
-module _ {A B : Type 0} {n : ℕ} {p : Parser A} {P : Rel A} {E : A → Terminal → Type 0} {S : A → Type 0} {f : A → Parser B} {Q : A → Rel B} {F : B → Terminal → Type 0} {T : B → Type 0} where
+module _ {A B : Type 0} {n : ℕ} {p : Parser A} {P : Rel A} {E : A → Terminal → Type 0} {S : Span → A → Type 0} {f : A → Parser B} {Q : A → Rel B} {F : B → Terminal → Type 0} {T : Span → B → Type 0} where
   pub seq : Laws n p P E S → ((a : A) → Laws n (f a) (Q a) F T) → ((s : Text) (a : A) (m : ℕ) (b : B) (j : ℕ) → Q a s b m j → F b (terminal (s j)) → E a (terminal (s m)))
-      → ((s : Text) (a : A) (m : ℕ) (b : B) (j : ℕ) → Q a s b m j → S a → T b) → Laws n (p >>= f) (Then P Q) F T
-  seq u v fits raise = then_laws n n p P E S f Q F T u v fits raise (λ s a i m j d h. let k = u.shape.forward s a i m d in omega arith)
+      → ((s : Text) (a : A) (m : ℕ) (b : B) (j : ℕ) → Q a s b m j → (at : Span) → S at a → T at b) → Laws n (p >>= f) (Then P Q) F T
+  seq u v fits raise = then_laws n n p P E S f Q F T u v fits raise (λ s a i m k d h. let forth = u.shape.forward s a i m d in omega arith)
 
-module _ {A : Type 0} {n : ℕ} {p q : Parser A} {P Q : Rel A} {E : A → Terminal → Type 0} {T : A → Type 0} where
+module _ {A : Type 0} {n : ℕ} {p q : Parser A} {P Q : Rel A} {E : A → Terminal → Type 0} {T : Span → A → Type 0} where
   pub alt : (test : Terminal → Bool) → Laws n p P E T → Laws n q Q E T
       → ((s : Text) (a : A) (i j : ℕ) → P s a i j → E a (terminal (s j)) → test (terminal (s i)) ≡ true)
       → ((s : Text) (a : A) (i j : ℕ) → Q s a i j → E a (terminal (s j)) → test (terminal (s i)) ≡ false)
       → Laws n (choose test p q) (Either P Q) E T
   alt test = choose_laws n test p q P Q E T
 
-pub tok : {A : Type 0} {n : ℕ} {q : List ℕ → Parser A} {Q : List ℕ → Rel A} {E : A → Terminal → Type 0} {T : A → Type 0} (k : Terminal) → is_token k ≡ true → ((v : List ℕ) → Laws n (q v) (Q v) E T) → Laws n (word k q) (Word k Q) E T
+pub tok : {A : Type 0} {n : ℕ} {q : List ℕ → Parser A} {Q : List ℕ → Rel A} {E : A → Terminal → Type 0} {T : Span → A → Type 0} (k : Terminal) → is_token k ≡ true → ((v : List ℕ) → Laws n (q v) (Q v) E T) → Laws n (word k q) (Word k Q) E T
 tok {n} {q} {Q} {E} {T} k real = word_laws n k real q Q E T
 
-pub op : {A : Type 0} {n : ℕ} {q : Token → Parser A} {Q : Token → Rel A} {E : A → Terminal → Type 0} {T : A → Type 0} (test : Terminal → Bool) (k : Terminal) → is_token k ≡ true → test k ≡ true
+pub op : {A : Type 0} {n : ℕ} {q : Token → Parser A} {Q : Token → Rel A} {E : A → Terminal → Type 0} {T : Span → A → Type 0} (test : Terminal → Bool) (k : Terminal) → is_token k ≡ true → test k ≡ true
     → ((x : Terminal) → test x ≡ true → is_token x ≡ true) → ((v : Token) → Laws n (q v) (Q v) E T) → Laws n (operator test q) (Operator test Q) E T
 op {n} {q} {Q} {E} {T} test k real is_one tokens = operator_laws n test k real is_one tokens q Q E T
 
-pub start : {A : Type 0} {n : ℕ} {f : ℕ → Parser A} {D : ℕ → Rel A} {E : A → Terminal → Type 0} {T : A → Type 0} → ((i : ℕ) → Laws n (f i) (D i) E T) → Laws n (here f) (λ s a i j. D i s a i j) E T
+pub start : {A : Type 0} {n : ℕ} {f : ℕ → Parser A} {D : ℕ → Rel A} {E : A → Terminal → Type 0} {T : Span → A → Type 0} → ((i : ℕ) → Laws n (f i) (D i) E T) → Laws n (here f) (λ s a i j. D i s a i j) E T
 start {n} {f} {D} {E} {T} = here_laws n f D E T
 
-pub renamed : {A : Type 0} {n : ℕ} {p : Parser A} {P : Rel A} {E : A → Terminal → Type 0} {T : A → Type 0} (Q : Rel A) (F : A → Terminal → Type 0) → Laws n p P E T
+pub renamed : {A : Type 0} {n : ℕ} {p : Parser A} {P : Rel A} {E : A → Terminal → Type 0} {T : Span → A → Type 0} (Q : Rel A) (F : A → Terminal → Type 0) → Laws n p P E T
     → ((s : Text) (a : A) (i j : ℕ) → P s a i j → Q s a i j) → ((s : Text) (a : A) (i j : ℕ) → Q s a i j → P s a i j)
     → ((a : A) (k : Terminal) → F a k → E a k) → Laws n p Q F T
-renamed {n} {p} {P} {E} {T} Q F u to from less = same_laws n n p P E T Q F T u to from less (λ a h. h) (le_refl n)
+renamed {n} {p} {P} {E} {T} Q F u to from less = same_laws n n p P E T Q F T u to from less (λ a at h. h) (le_refl n)
 
-pub taller : {A : Type 0} {n : ℕ} {p : Parser A} {P : Rel A} {E : A → Terminal → Type 0} {S : A → Type 0} (T : A → Type 0) → Laws n p P E S → ((a : A) → S a → T a) → Laws n p P E T
+pub taller : {A : Type 0} {n : ℕ} {p : Parser A} {P : Rel A} {E : A → Terminal → Type 0} {S : Span → A → Type 0} (T : Span → A → Type 0) → Laws n p P E S → ((a : A) (at : Span) → S at a → T at a) → Laws n p P E T
 taller {n} {p} {P} {E} {S} T u grow = same_laws n n p P E S P E T u (λ s a i j d. d) (λ s a i j d. d) (λ a k h. h) grow (le_refl n)
 
 -- a loop after a rule, of which a step begins with what may follow what stands before it
-module _ {A : Type 0} {n : ℕ} {p : Parser A} {P : Rel A} {step : A → Parser A} {Q : A → Rel A} {E : A → Terminal → Type 0} {T : A → Type 0} where
+module _ {A : Type 0} {n : ℕ} {p : Parser A} {P : Rel A} {step : A → Parser A} {Q : A → Rel A} {E : A → Terminal → Type 0} {T : Span → A → Type 0} where
   pub rep_by : (test : Terminal → Bool) → Laws n p P E T → ((a : A) → Laws n (step a) (Q a) E T)
       → ((s : Text) (x a : A) (i j : ℕ) → Q x s a i j → test (terminal (s i)) ≡ true) → ((s : Text) (x a : A) (i j : ℕ) → Q x s a i j → i < j)
-      → ((s : Text) (x a : A) (i j : ℕ) → Q x s a i j → E x (terminal (s i))) → ((s : Text) (x a : A) (i j : ℕ) → Q x s a i j → T x → T a)
+      → ((s : Text) (x a : A) (i j : ℕ) → Q x s a i j → E x (terminal (s i))) → ((s : Text) (x a : A) (i j : ℕ) → Q x s a i j → (at : Span) → T at x → T at a)
       → Laws n (p >>= loop n test step) (Then P (λ x s a i j. Steps Q s x a i j)) (λ a k. E a k × (test k ≡ false)) T
   rep_by test u parts begins strict follows grows = then_laws n n p P E T (loop n test step) (λ x s a i j. Steps Q s x a i j) (λ a k. E a k × (test k ≡ false)) T u
       (loop_laws n test step Q E T parts begins strict follows grows n (le_refl n)) (λ s y m a j d last. after_step n test step Q E T parts begins strict follows grows s y a m j d last)
-      (λ s y m a j d h. steps_grow n test step Q E T parts begins strict follows grows s y a m j d h)
+      (λ s y m a j d at h. steps_grow n test step Q E T parts begins strict follows grows s y a m j d at h)
       (λ s a i m j d h. let k = u.shape.forward s a i m d in omega arith)
 
   -- the same where whatever passes the test may follow
   pub rep : (test : Terminal → Bool) → Laws n p P E T → ((a : A) → Laws n (step a) (Q a) E T)
       → ((s : Text) (x a : A) (i j : ℕ) → Q x s a i j → test (terminal (s i)) ≡ true) → ((s : Text) (x a : A) (i j : ℕ) → Q x s a i j → i < j)
-      → ((a : A) (k : Terminal) → test k ≡ true → E a k) → ((s : Text) (x a : A) (i j : ℕ) → Q x s a i j → T x → T a)
+      → ((a : A) (k : Terminal) → test k ≡ true → E a k) → ((s : Text) (x a : A) (i j : ℕ) → Q x s a i j → (at : Span) → T at x → T at a)
       → Laws n (p >>= loop n test step) (Then P (λ x s a i j. Steps Q s x a i j)) (λ a k. E a k × (test k ≡ false)) T
   rep test u parts begins strict goes_on grows = rep_by test u parts begins strict (λ s x a i j d. goes_on x (terminal (s i)) (begins s x a i j d)) grows

@@ -21,15 +21,16 @@ text_of tokens = λ at. slice_index_or tokens at ended
 unfoldable pub place_of : List Token → ℕ → Span
 place_of tokens = λ at. (slice_index_or tokens at ended).at
 
-abbrev pub IsOver : {A : Type 0} → Answer A → Type 0
-IsOver (Found a j) = ⊥
-IsOver (Wrong k) = ⊥
-IsOver (Over k) = Unit {0}
+-- the limit of depth is passed by a node that stands there
+abbrev pub IsDeepAt : {A : Type 0} → Span → Answer A → Type 0
+IsDeepAt at (Found a j) = ⊥
+IsDeepAt at (Wrong k) = ⊥
+IsDeepAt at (Over k d) = d ≡ at
 
 abbrev pub Fails : {A : Type 0} → Stop → Answer A → Type 0
 Fails f.Memory answer = Unit {0}
 Fails (f.Syntax at) answer = answer ≡ Wrong at
-Fails (f.Deep at) answer = IsOver answer
+Fails (f.Deep at) answer = IsDeepAt at answer
 
 -- what a function returned is the answer, unless memory ran out
 abbrev pub Gives : {A : Type 0} → Result (A × ℕ) Stop → Answer A → Type 0

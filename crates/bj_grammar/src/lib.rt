@@ -8,7 +8,7 @@ mod terminal;
 mod text;
 
 pub use spelling::is;
-pub use stop::Stop;
+pub use stop::{Stop, out_of_turns};
 pub use symbol::Symbol;
 pub use terminal::Terminal;
 pub use text::{among, peek, place, sees, taken, units, word};

@@ -1,4 +1,8 @@
-use bj_core::NoMemory;
+ghost use Rattle.std.specs.Prelude.{◌≡◌};
+ghost use Rattle.bj_grammar.specs.declared.stop.Stop.TheVariants as stops;
+ghost use Rattle.bj_grammar.specs.Reader.{nowhere};
+
+use bj_core::{NoMemory, Span};
 use std::alloc::AllocError;
 
 /// Why a rule reads no further.
@@ -8,8 +12,15 @@ pub enum Stop {
     Memory,
     /// The place of the first token with which nothing goes on.
     Syntax(usize),
-    /// The place of a node with too many above it.
-    Deep(usize),
+    /// Where a node stands that has too many above it.
+    Deep(Span),
+}
+
+/// Why a loop stops that has taken as many turns as it may. None does that may take more than there are tokens.
+pub fn out_of_turns() -> Stop
+    ensures { result ≡ stops.Deep nowhere }
+{
+    Stop::Deep(Span { line: 0, column: 0 })
 }
 
 impl From<AllocError> for Stop {

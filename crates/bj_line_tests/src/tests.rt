@@ -6,7 +6,7 @@ use std::alloc::Global;
 use std::test::Fail;
 
 /// Lets a tree go. Its drop stands here alone, so that no caller's proof goes through it.
-fn let_go(_tree: LineTree) {}
+pub(crate) fn let_go(_tree: LineTree) {}
 
 /// The column of a fault of syntax in line 1, and 0 for another one.
 fn column_of(code: FaultCode, at: Span) -> u32 {

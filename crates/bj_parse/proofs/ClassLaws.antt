@@ -11,16 +11,17 @@ use Rattle.bj_tree.specs.declared.class.ClassTree.{ClassTree}
 use Rattle.bj_rules.specs.declared.misfit.Misfit.{Misfit}
 use Rattle.bj_grammar.specs.declared.stop.Stop.TheVariants as stops
 use Rattle.bj_grammar.specs.Reader.{Answer, Found, Wrong, Over}
-use Rattle.bj_grammar.specs.Given.{text_of, place_of}
+use Rattle.bj_grammar.specs.Given.{text_of, place_of, IsDeepAt}
 use Rattle.bj_grammar.proofs.Laws.{Rel, Laws, Outcome}
 use Rattle.bj_stmt.proofs.Small.{Any}
 use Rattle.bj_class.specs.Grammar.{File}
 use Rattle.bj_class.specs.Deep.{DeepMembers}
 use Rattle.bj_class.specs.Reading.{file_at}
+use Rattle.bj_class.proofs.LowMembers.{file_low, deep_high}
 use Rattle.bj_parse.specs.declared.halt.Halt.{Halt}
 use Rattle.bj_parse.specs.declared.halt.Halt.TheVariants as halts
 use Rattle.bj_parse.specs.Line.{most_nodes, IsStuck, spot}
-use Rattle.bj_parse.specs.Checked.{Checked, Reads, Misfits, IsOverChecked, HaltsAs, checked_file}
+use Rattle.bj_parse.specs.Checked.{Checked, Reads, Misfits, IsDeepChecked, HaltsAs, checked_file}
 use Rattle.bj_parse.specs.Class.{IsClass, FirstMisfit, FirstFault, TooDeep, IsBehind, member_code, GivesClass, IsFirst, ClassFault, the_file, IsRefusalOf}
 use Rattle.bj_parse.proofs.Whole as whole
 use Rattle.bj_parse.proofs.Items.{IsHalted}
@@ -46,8 +47,8 @@ module _ (tokens : Tokens) where
   abbrev FileRel : Rel ClassTree
   FileRel = λ s a i j. File tokens.class (place_of items) s a i j
 
-  abbrev Deep : ClassTree → Type 0
-  Deep a = DeepMembers most_nodes a.members
+  abbrev Deep : Span → ClassTree → Type 0
+  Deep at a = DeepMembers most_nodes at a.members
 
   abbrev plain : Answer ClassTree
   plain = file_at (place_of items) steps most_nodes tokens.class (text_of items) 0
@@ -59,7 +60,7 @@ module _ (tokens : Tokens) where
 
   -- what is a class is read
   class_read : (a : ClassTree) → IsClass tokens.class items a → the_file tokens ≡ Reads (Found a (length items))
-  class_read a d = file.file_fits items steps most_nodes p marks tokens.class a (length items) (whole.found _ FileRel Any Deep items laws (λ a. tt) a d.stands d.low) d.fits d.low
+  class_read a d = file.file_fits items steps most_nodes p marks tokens.class a (length items) (whole.found _ FileRel Any Deep items laws (λ a. tt) a d.stands (λ at h. d.low (deep_high most_nodes at a.members h))) d.fits
 
   found_plain : (a : ClassTree) (at : ℕ) → the_file tokens ≡ Reads (Found a at) → plain ≡ Found a at
   found_plain a at e = (file.file_found items steps most_nodes p marks tokens.class a at e).plain
@@ -70,12 +71,12 @@ module _ (tokens : Tokens) where
   pub whole_class : (a : ClassTree) (at : ℕ) → the_file tokens ≡ Reads (Found a at) → length items ≤ at → IsClass tokens.class items a
   whole_class a at e le =
       let f = file.file_found items steps most_nodes p marks tokens.class a at e in
-      record { stands = whole.stands _ FileRel Any Deep items laws (λ a. tt) a (f.plain ∙ ap (Found a) (at_end a at e le)); fits = f.fits; low = f.low }
+      record { stands = whole.stands _ FileRel Any Deep items laws (λ a. tt) a (f.plain ∙ ap (Found a) (at_end a at e le)); fits = f.fits; low = file_low (place_of items) steps most_nodes tokens.class (text_of items) 0 a at f.plain }
 
   same_found : (r : Checked ClassTree) (a b : ClassTree) (m n : ℕ) → r ≡ Reads (Found a m) → r ≡ Reads (Found b n) → (a ≡ b) × (m ≡ n)
   same_found (Reads (Found c k)) a b m n e f = (cc, cc)
   same_found (Reads (Wrong k)) a b m n e f = absurd (cc)
-  same_found (Reads (Over k)) a b m n e f = absurd (cc)
+  same_found (Reads (Over k place)) a b m n e f = absurd (cc)
   same_found (Misfits x) a b m n e f = absurd (cc)
 
   pub only_class : (a : ClassTree) (at : ℕ) → the_file tokens ≡ Reads (Found a at) → (b : ClassTree) → IsClass tokens.class items b → a ≡ b
@@ -112,10 +113,8 @@ module _ (tokens : Tokens) where
   no_behind k e w = of plain e (laws.complete (text_of items) 0 w.0 k w.1 tt)
     where
       of : (r : Answer ClassTree) → r ≡ Wrong k → Outcome steps Deep r w.0 0 k → ⊥
-      of (Found b j) e h = absurd (cc)
-      of (Wrong m) e (inl h) = absurd (cc)
-      of (Wrong m) e (inr h) = h.0
-      of (Over m) e h = absurd (cc)
+      of r e (inl h) = absurd (cc)
+      of r e (inr x) = let is = x.is in absurd (cc)
 
   pub stuck_first : (k : ℕ) → the_file tokens ≡ Reads (Wrong k) → IsFirst tokens (spot tokens k) (member_code (text_of items) k)
   stuck_first k e =
@@ -128,18 +127,26 @@ module _ (tokens : Tokens) where
         fits = λ x d. subst IsHalted e (file.file_met items steps most_nodes p marks tokens.class x d);
       }
 
-  too_deep : IsOverChecked (the_file tokens) → TooDeep tokens.class items
-  too_deep o a d = of (laws.complete (text_of items) 0 a (length items) d tt)
+  -- a checked reading that passes a limit does so where the other does
+  plain_deep : (at : Span) → IsDeepChecked at (the_file tokens) → IsDeepAt at plain
+  plain_deep at h = of (the_file tokens) refl h
     where
-      of : Outcome steps Deep plain a 0 (length items) → DeepMembers most_nodes a.members
-      of (inl e) = file.file_deep items steps most_nodes p marks tokens.class a (length items) o e
-      of (inr x) = elim (x.1) [ inl y ↦ y | inr y ↦ absurd (let z : steps + 0 ≤ length items = y in omega arith) ]
+      of : (r : Checked ClassTree) → the_file tokens ≡ r → IsDeepChecked at r → IsDeepAt at plain
+      of (Reads (Found a j)) e h = absurd h
+      of (Reads (Wrong k)) e h = absurd h
+      of (Reads (Over k place)) e h = subst (IsDeepAt at) (sym (file.file_over items steps most_nodes p marks tokens.class k place e)) h
+      of (Misfits x) e h = absurd h
+
+  too_deep : (at : Span) → IsDeepChecked at (the_file tokens) → TooDeep tokens.class items at
+  too_deep at h =
+      let d = whole.deep_at _ FileRel Any Deep items laws (λ a. tt) at (plain_deep at h) in
+      record { place = d.place; begins = d.begins; deep = d.deep }
 
   -- no class is read where reading halts
   halted_none : (e : Halt) → (e ≡ halts.Stopped stops.Memory → ⊥) → HaltsAs e (the_file tokens) → (a : ClassTree) → IsClass tokens.class items a → ⊥
   halted_none (halts.Stopped stops.Memory) some h a d = some refl
   halted_none (halts.Stopped (stops.Syntax at)) some h a d = let clash : Reads (Wrong at) ≡ Reads (Found a (length items)) = sym h ∙ class_read a d in absurd (cc)
-  halted_none (halts.Stopped (stops.Deep at)) some h a d = absurd (subst IsOverChecked (class_read a d) h)
+  halted_none (halts.Stopped (stops.Deep at)) some h a d = absurd (subst (IsDeepChecked at) (class_read a d) h)
   halted_none (halts.Unfit x) some h a d = let clash : Misfits x ≡ Reads (Found a (length items)) = sym h ∙ class_read a d in absurd (cc)
 
   pub refused_only : (e : Halt) (r : Refusal) → HaltsAs e (the_file tokens) → IsRefusalOf tokens e r → (a : ClassTree) → IsClass tokens.class items a → GivesClass (Err r) a
@@ -159,7 +166,8 @@ module _ (tokens : Tokens) where
   refused_fault e refusals.NoMemory h is = tt
   refused_fault (halts.Stopped stops.Memory) (refusals.Fault f) h is = absurd is
   refused_fault (halts.Stopped (stops.Syntax at)) (refusals.Fault f) h is = (is.0, inr (inr (moved f.at (spot tokens at) f.code _ is.1 is.2 (stuck_first at h))))
-  refused_fault (halts.Stopped (stops.Deep at)) (refusals.Fault f) h is = (is.0, inl (is.2, h, too_deep h))
+  refused_fault (halts.Stopped (stops.Deep at)) (refusals.Fault f) h is =
+      (is.0, inl (is.2, subst (λ (z : Span). IsDeepChecked z (the_file tokens)) (sym is.1) h, too_deep f.at (subst (λ (z : Span). IsDeepChecked z (the_file tokens)) (sym is.1) h)))
   refused_fault (halts.Unfit x) (refusals.Fault f) h is = (is.0, inr (inl (told x f.at f.code is.1 is.2 (file.file_misfit items steps most_nodes p marks tokens.class x h))))
 
   pub behind_fault : (a : ClassTree) (at : ℕ) (r : Refusal) → the_file tokens ≡ Reads (Found a at) → at < length items

@@ -2,6 +2,7 @@
 use Rattle.std.proofs.Common.{◌≡◌, ℕ, suc, ◌<◌, ◌≤◌, ◌⊎◌, inl, inr, Bool, true, false, List, Option, Some, None, refl, sym, ap, ◌∙◌, arith}
 use Rattle.std.specs.Prelude.{◌&&◌, if◌then◌else◌, nat_lt}
 use Rattle.std.proofs.lemmas.Bool.{both_ways, cases_Bool, cases_lt, ltb-true}
+use Rattle.bj_core.specs.declared.types.Span.{Span}
 use Rattle.bj_lex.specs.declared.token.Token.{Token}
 use Rattle.bj_tree.specs.declared.types.TypeTree.{TypeTree}
 use Rattle.bj_tree.specs.declared.class.ClassKind.{ClassKind}
@@ -12,7 +13,7 @@ use Rattle.bj_grammar.specs.declared.terminal.Terminal.TheVariants as t
 use Rattle.bj_grammar.specs.Terminal.{terminal, same_terminal, among}
 use Rattle.bj_grammar.specs.Reader.{Text, Wrong}
 use Rattle.bj_grammar.specs.Given.{text_of, place_of}
-use Rattle.bj_grammar.proofs.Laws.{Laws, Completes}
+use Rattle.bj_grammar.proofs.Laws.{Laws, Completes, halted}
 use Rattle.bj_expr.specs.Grammar as ge
 use Rattle.bj_expr.specs.Grammar.{TypeAt}
 use Rattle.bj_stmt.proofs.Leftmost.{is_not}
@@ -53,7 +54,7 @@ unfolding same_terminal
 at_no_static = refl
 
 module _ (tokens : List Token) (room : ℕ) (marks : Marks tokens) (owned : EveryOwned tokens room)
-    (T : MemberTree → Type 0) (member_laws : Laws (most_of tokens) (r.member (place_of tokens) (most_of tokens) room) (MemberRel (place_of tokens)) Any T) where
+    (T : Span → MemberTree → Type 0) (member_laws : Laws (most_of tokens) (r.member (place_of tokens) (most_of tokens) room) (MemberRel (place_of tokens)) Any T) where
   -- ---- heads
 
   head_early : (n k : ℕ) (x : Misfit) → r.head (place_of tokens) (most_of tokens) (text_of tokens) n ≡ Wrong k → early_head (place_of tokens) (most_of tokens) (text_of tokens) n k ≡ Some x
@@ -94,7 +95,7 @@ module _ (tokens : List Token) (room : ℕ) (marks : Marks tokens) (owned : Ever
   no_block kind n k x u wrong = elim (cases_Bool (is_block tokens n k)) [ inl e ↦ absurd (refuted u e) | inr e ↦ e ]
     where
       begun : Completes (MemberRel (place_of tokens)) (text_of tokens) n k
-      begun = member_laws.viable (text_of tokens) n k wrong
+      begun = member_laws.viable (text_of tokens) n k (ap halted wrong)
 
       -- the first two tokens are those of the part that the modifiers belong to
       of : (m : ℕ) (owner : Place) → MayHave (MemberRel (place_of tokens)) (member_place kind) (place_of tokens) (text_of tokens) n m owner → suc n < m → is_static_block (text_of tokens) n ≡ true → ⊥

@@ -16,7 +16,7 @@ use Rattle.bj_grammar.specs.declared.terminal.Terminal.TheVariants as t
 use Rattle.bj_grammar.specs.Terminal.{terminal, same_terminal, among}
 use Rattle.bj_grammar.specs.Reader.{Text, Answer, Found, Wrong, Over, Parser}
 use Rattle.bj_grammar.specs.Given.{text_of, place_of}
-use Rattle.bj_grammar.proofs.Laws.{Rel, Completes, Laws, Outcome, IsOver, stop}
+use Rattle.bj_grammar.proofs.Laws.{Rel, Completes, Laws, Outcome, halted, stop}
 use Rattle.bj_stmt.proofs.Leftmost.{each}
 use Rattle.bj_stmt.proofs.Small.{Any}
 use Rattle.bj_class.specs.Grammar as g
@@ -222,7 +222,7 @@ no_note = each (λ x. (same_terminal x t.At ≡ false) × (same_terminal x t.Lef
 
 module _ {A : Type 0} (D : Rel A) (placed : A → Option Place) (tokens : List Token) (marks : Marks tokens) (n k : ℕ) (owners : ℕ → List Place)
     (laws : OwnerLaws D placed (place_of tokens) (most_of tokens) (text_of tokens) n k owners)
-    (item : Parser A) (T : A → Type 0) (item_laws : Laws (most_of tokens) item D Any T) (wrong : item (text_of tokens) n ≡ Wrong k)
+    (item : Parser A) (T : Span → A → Type 0) (item_laws : Laws (most_of tokens) item D Any T) (wrong : item (text_of tokens) n ≡ Wrong k)
     -- with the annotations and modifiers that stand a part begins
     (fresh : (i q : ℕ) (ms : List Modifier) → annotations_end (place_of tokens) (most_of tokens) (most_of tokens) (text_of tokens) n ≡ ends.Behind i
     → r.modifiers (place_of tokens) (most_of tokens) (text_of tokens) i ≡ Found ms q → n < q
@@ -239,11 +239,11 @@ module _ {A : Type 0} (D : Rel A) (placed : A → Option Place) (tokens : List T
 
       of : Outcome (most_of tokens) T (item u n) a n j → ⊥
       of (inl e) = let both : Wrong k ≡ Found a j = sym read ∙ e in absurd (cc)
-      of (inr w) = subst IsOver read w.0
+      of (inr w) = let both : Wrong k ≡ Over w.place w.node = sym read ∙ w.is in absurd (cc)
 
   -- the tokens before k begin one
   begun : Completes D (text_of tokens) n k
-  begun = item_laws.viable (text_of tokens) n k wrong
+  begun = item_laws.viable (text_of tokens) n k (ap halted wrong)
 
   -- modifiers begin behind the annotations
   notes_forward : {notes : List AnnotationTree} {i : ℕ} → Annotations (place_of tokens) (text_of tokens) notes n i → n ≤ i
@@ -307,7 +307,7 @@ module _ {A : Type 0} (D : Rel A) (placed : A → Option Place) (tokens : List T
           → UnfitMark D placed (place_of tokens) (text_of tokens) n x
       behind i (Found ms q) is found told = modifier_is i q ms x is found told
       behind i (Wrong o) is found told = absurd (cc)
-      behind i (Over o) is found told = absurd (cc)
+      behind i (Over o node) is found told = absurd (cc)
 
       at : (o : AnnotationsEnd) → annotations_end (place_of tokens) (most_of tokens) (most_of tokens) (text_of tokens) n ≡ o
           → behind_annotations (place_of tokens) (most_of tokens) owners (text_of tokens) o ≡ Some x → UnfitMark D placed (place_of tokens) (text_of tokens) n x

@@ -10,23 +10,21 @@ use Rattle.bj_rules.specs.Rules.{head_misfit}
 use Rattle.bj_grammar.specs.declared.terminal.Terminal.TheVariants as t
 use Rattle.bj_grammar.specs.Terminal.{terminal, same_terminal}
 use Rattle.bj_grammar.specs.Reader.{Text, Answer, Found, Wrong, Over, and_then, ◌>>=◌, pure, loop}
-use Rattle.bj_grammar.specs.Given.{IsOver, text_of, place_of}
-use Rattle.bj_grammar.proofs.Laws as laws_of
-use Rattle.bj_grammar.proofs.Laws.{Rel, Laws, Outcome, and_then_found}
+use Rattle.bj_grammar.specs.Given.{text_of, place_of}
+use Rattle.bj_grammar.proofs.Laws.{Passed, Outcome, and_then_found}
 use Rattle.bj_expr.specs.Reading.{is}
 use Rattle.bj_stmt.specs.Reading.{inside}
 use Rattle.bj_stmt.proofs.Expressions.{Never}
 use Rattle.bj_class.specs.declared.head.ClassHead.{ClassHead}
 use Rattle.bj_class.specs.Grammar as g
-use Rattle.bj_class.specs.Grammar.{Imports, Import, Head, Members, Member, File, class_tree}
-use Rattle.bj_class.specs.Deep.{DeepMembers}
+use Rattle.bj_class.specs.Grammar.{Imports, Head, class_tree}
 use Rattle.bj_class.specs.Reading as r
-use Rattle.bj_parse.specs.Checked.{Checked, Reads, Misfits, then_checked, checked_part, IsOverChecked, check_head, checked_file, checked_imports, checked_head, checked_members, checked_body, closed}
+use Rattle.bj_parse.specs.Checked.{Checked, Reads, Misfits, then_checked, checked_part, check_head, checked_file, checked_imports, checked_head, checked_members, checked_body, closed}
 use Rattle.bj_parse.specs.Early.{early_head}
 use Rattle.bj_parse.specs.Class.{ImportsFit, HeadFits, MembersFit, Fits, FirstMisfit, of_import, of_head, of_member, of_mark_of_head, of_mark_of_member}
 use Rattle.bj_parse.proofs.EarlyNeeded.{Early}
 use Rattle.bj_parse.proofs.Items as items
-use Rattle.bj_parse.proofs.Items.{IsHalted, then_found, then_wrong, then_over, then_misfit, then_halted, part_found, part_wrong, part_misfit, part_over, part_halted, over_checked_halted, reads_is}
+use Rattle.bj_parse.proofs.Items.{IsHalted, then_found, then_wrong, then_over, then_misfit, then_halted, part_found, part_wrong, part_misfit, part_over, part_halted, passed_halted, over_no_wrong, reads_is}
 use Rattle.bj_parse.proofs.FileRun as run
 use Rattle.bj_parse.proofs.FileRun.{Parts, misfit_found, misfit_wrong, misfit_is, misfit_no_over, misfit_fit, misfit_met}
 
@@ -87,7 +85,7 @@ module _ (tokens : List Token) (most room : ℕ) (parts : Parts (place_of tokens
 
   imports_found : (is : List ImportTree) (i : ℕ) → the_imports ≡ Reads (Found is i) → (plain_imports ≡ Found is i) × ImportsFit is
   imports_found is i e =
-      let w = items.found most _ _ _ _ S _ _ _ _ _ _ _ _ (run.import_items tokens most room parts early) most [] 0 is i tt e in
+      let w = items.found most _ _ _ _ S _ _ _ _ _ _ _ (run.import_items tokens most room parts early) most [] 0 is i tt e in
       (imports_are ∙ w.0, w.1)
 
   imports_stand : (is : List ImportTree) (i : ℕ) → plain_imports ≡ Found is i → Imports P S is 0 i
@@ -103,6 +101,13 @@ module _ (tokens : List Token) (most room : ℕ) (parts : Parts (place_of tokens
           let v = misfit_found (head_misfit (w.0).annotations (w.0).modifiers (w.0).kind) w.0 h w.1 n w.3 in
           (w.2 ∙ (ap (λ (c : ClassHead). Found c w.1) (sym v.0) ∙ ap (Found h) (sym v.1)), subst HeadFits (sym v.0) v.2)
 
+  head_over : (i n : ℕ) (at : Span) → the_head i ≡ Reads (Over n at) → r.head P most S i ≡ Over n at
+  head_over i n at e = of (part_over check_head (early_head P most S i) (r.head P most S i) n at e)
+    where
+      of : ((c : ClassHead) × (m : ℕ) × (check_head c m ≡ Reads (Over n at))) ⊎ (r.head P most S i ≡ Over n at) → r.head P most S i ≡ Over n at
+      of (inl w) = absurd (misfit_no_over (head_misfit (w.0).annotations (w.0).modifiers (w.0).kind) w.0 w.1 n at w.2)
+      of (inr e) = e
+
   head_wrong : (i n : ℕ) → the_head i ≡ Reads (Wrong n) → r.head P most S i ≡ Wrong n
   head_wrong i n e = of (part_wrong check_head (early_head P most S i) (r.head P most S i) n e)
     where
@@ -112,10 +117,10 @@ module _ (tokens : List Token) (most room : ℕ) (parts : Parts (place_of tokens
 
   -- ---- the members
 
-  members_found : (h : ClassHead) (n : ℕ) (ms : List MemberTree) (o : ℕ) → the_members h n ≡ Reads (Found ms o) → (plain_members n ≡ Found ms o) × MembersFit h.kind h.name.name ms × (DeepMembers room ms → ⊥)
+  members_found : (h : ClassHead) (n : ℕ) (ms : List MemberTree) (o : ℕ) → the_members h n ≡ Reads (Found ms o) → (plain_members n ≡ Found ms o) × MembersFit h.kind h.name.name ms
   members_found h n ms o e =
-      let w = items.found most _ _ _ _ S _ _ _ _ _ _ _ _ (run.member_items tokens most room parts early h n) most [] n ms o (tt, (λ x. x)) e in
-      (members_are n ∙ w.0, w.1.0, w.1.1)
+      let w = items.found most _ _ _ _ S _ _ _ _ _ _ _ (run.member_items tokens most room parts early h n) most [] n ms o tt e in
+      (members_are n ∙ w.0, w.1)
 
   -- ---- found
 
@@ -156,16 +161,14 @@ module _ (tokens : List Token) (most room : ℕ) (parts : Parts (place_of tokens
   pub record FoundFile (a : ClassTree) (j : ℕ) : Type 0 where
     pub plain : plain_file ≡ Found a j
     pub fits : Fits a
-    pub low : DeepMembers room a.members → ⊥
 
   found_of : (is : List ImportTree) (i : ℕ) (h : ClassHead) (n : ℕ) (ms : List MemberTree) (o : ℕ) (a : ClassTree) (j : ℕ) → (plain_imports ≡ Found is i) × ImportsFit is → (r.head P most S i ≡ Found h n) × HeadFits h
-      → (plain_members n ≡ Found ms o) × MembersFit h.kind h.name.name ms × (DeepMembers room ms → ⊥) → closed P most room file is h ms S o ≡ Found a j → FoundFile a j
+      → (plain_members n ≡ Found ms o) × MembersFit h.kind h.name.name ms → closed P most room file is h ms S o ≡ Found a j → FoundFile a j
   found_of is i h n ms o a j x y z ends =
       let tree = tree_is is h ms o a j ends in
       record {
         plain = plain_of is i h n ms o x.0 y.0 z.0 ∙ ends;
         fits = subst Fits tree (record { imports = x.1; head = y.1; members = z.1 });
-        low = subst (λ (c : ClassTree). DeepMembers room c.members → ⊥) tree z.2;
       }
 
   pub file_found : (a : ClassTree) (j : ℕ) → checked_file P most room file S ≡ Reads (Found a j) → FoundFile a j
@@ -182,7 +185,7 @@ module _ (tokens : List Token) (most room : ℕ) (parts : Parts (place_of tokens
     where
       at_members : (is : List ImportTree) (h : ClassHead) (i : ℕ) → ((ms : List MemberTree) × (o : ℕ) × (the_members h i ≡ Reads (Found ms o)) × (Reads (closed P most room file is h ms S o) ≡ Reads (Wrong n))) ⊎ (the_members h i ≡ Reads (Wrong n)) → plain_rest is h i ≡ Wrong n
       at_members is h i (inl w) = ap (λ (q : Answer (List MemberTree)). and_then q (λ ms o. closed P most room file is h ms S o)) (members_found h i w.0 w.1 w.2).0 ∙ reads_is _ _ w.3
-      at_members is h i (inr e) = ap (λ (q : Answer (List MemberTree)). and_then q (λ ms o. closed P most room file is h ms S o)) (members_are i ∙ items.wrong most _ _ _ _ S _ _ _ _ _ _ _ _ (run.member_items tokens most room parts early h i) most [] i n e)
+      at_members is h i (inr e) = ap (λ (q : Answer (List MemberTree)). and_then q (λ ms o. closed P most room file is h ms S o)) (members_are i ∙ items.wrong most _ _ _ _ S _ _ _ _ _ _ _ (run.member_items tokens most room parts early h i) most [] i n e)
 
       at_head : (is : List ImportTree) (i : ℕ) → ((h : ClassHead) × (m : ℕ) × (the_head i ≡ Reads (Found h m)) × (the_rest is h m ≡ Reads (Wrong n))) ⊎ (the_head i ≡ Reads (Wrong n)) → plain_body is i ≡ Wrong n
       at_head is i (inl w) = ap (λ (q : Answer ClassHead). and_then q (λ h n. plain_rest is h n)) (head_found i w.0 w.1 w.2).0 ∙ at_members is w.0 w.1 (then_wrong (the_members w.0 w.1) (λ ms o. Reads (closed P most room file is w.0 ms S o)) n w.3)
@@ -190,7 +193,7 @@ module _ (tokens : List Token) (most room : ℕ) (parts : Parts (place_of tokens
 
       of : ((is : List ImportTree) × (i : ℕ) × (the_imports ≡ Reads (Found is i)) × (the_body is i ≡ Reads (Wrong n))) ⊎ (the_imports ≡ Reads (Wrong n)) → and_then plain_imports (λ is i. plain_body is i) ≡ Wrong n
       of (inl w) = ap (λ (q : Answer (List ImportTree)). and_then q (λ is i. plain_body is i)) (imports_found w.0 w.1 w.2).0 ∙ at_head w.0 w.1 (then_wrong (the_head w.1) (λ h m. the_rest w.0 h m) n w.3)
-      of (inr e) = ap (λ (q : Answer (List ImportTree)). and_then q (λ is i. plain_body is i)) (imports_are ∙ items.wrong most _ _ _ _ S _ _ _ _ _ _ _ _ (run.import_items tokens most room parts early) most [] 0 n e)
+      of (inr e) = ap (λ (q : Answer (List ImportTree)). and_then q (λ is i. plain_body is i)) (imports_are ∙ items.wrong most _ _ _ _ S _ _ _ _ _ _ _ (run.import_items tokens most room parts early) most [] 0 n e)
 
   -- ---- a misfit
 
@@ -203,10 +206,10 @@ module _ (tokens : List Token) (most room : ℕ) (parts : Parts (place_of tokens
       at_members is i h n y z (inr e) =
           let v = imports_found is i y in
           let w = head_found i h n z in
-          let u = items.misfit most _ _ _ _ S _ _ _ _ _ _ _ _ (run.member_items tokens most room parts early h n) most [] n x (g.no_members refl refl) (tt, (λ x. x)) e in
+          let u = items.misfit most _ _ _ _ S _ _ _ _ _ _ _ (run.member_items tokens most room parts early h n) most [] n x (g.no_members refl refl) tt e in
           elim u.how [
-            | inl m ↦ of_member (imports_stand is i v.0) v.1 (parts.head_laws.sound S i h n w.0) w.1 u.stand u.fit.0 m.is_part m.mis
-            | inr b ↦ of_mark_of_member (imports_stand is i v.0) v.1 (parts.head_laws.sound S i h n w.0) w.1 u.stand u.fit.0 b
+            | inl m ↦ of_member (imports_stand is i v.0) v.1 (parts.head_laws.sound S i h n w.0) w.1 u.stand u.fit m.is_part m.mis
+            | inr b ↦ of_mark_of_member (imports_stand is i v.0) v.1 (parts.head_laws.sound S i h n w.0) w.1 u.stand u.fit b
           ]
 
       at_head : (is : List ImportTree) (i : ℕ) → the_imports ≡ Reads (Found is i) → ((h : ClassHead) × (m : ℕ) × (the_head i ≡ Reads (Found h m)) × (the_rest is h m ≡ Misfits x)) ⊎ (the_head i ≡ Misfits x) → FirstMisfit tokens x
@@ -221,34 +224,10 @@ module _ (tokens : List Token) (most room : ℕ) (parts : Parts (place_of tokens
       of : ((is : List ImportTree) × (i : ℕ) × (the_imports ≡ Reads (Found is i)) × (the_body is i ≡ Misfits x)) ⊎ (the_imports ≡ Misfits x) → FirstMisfit tokens x
       of (inl w) = at_head w.0 w.1 w.2 (then_misfit (the_head w.1) (λ h m. the_rest w.0 h m) x w.3)
       of (inr e) =
-          let u = items.misfit most _ _ _ _ S _ _ _ _ _ _ _ _ (run.import_items tokens most room parts early) most [] 0 x (g.no_imports refl refl) tt e in
+          let u = items.misfit most _ _ _ _ S _ _ _ _ _ _ _ (run.import_items tokens most room parts early) most [] 0 x (g.no_imports refl refl) tt e in
           elim u.how [ inl m ↦ of_import u.stand u.fit m.is_part m.mis | inr b ↦ absurd b ]
 
   -- ---- a misfit that stands is met
-
-  same_imports : (is : List ImportTree) (i : ℕ) → Imports P S is 0 i → same_terminal (terminal (S i)) t.Import ≡ false → (plain_imports ≡ Found is i) ⊎ IsOver plain_imports
-  same_imports is i d e = of (parts.imports_laws.complete S 0 is i d e)
-    where
-      over_is : (q : Answer (List ImportTree)) → laws_of.IsOver q → IsOver q
-      over_is (Found a j) h = absurd h
-      over_is (Wrong n) h = absurd h
-      over_is (Over n) h = tt
-
-      of : Outcome most Never plain_imports is 0 i → (plain_imports ≡ Found is i) ⊎ IsOver plain_imports
-      of (inl e) = inl e
-      of (inr x) = inr (over_is plain_imports x.0)
-
-  same_head : (h : ClassHead) (i n : ℕ) → Head P S h i n → (r.head P most S i ≡ Found h n) ⊎ IsOver (r.head P most S i)
-  same_head h i n d = of (parts.head_laws.complete S i h n d tt)
-    where
-      over_is : (q : Answer ClassHead) → laws_of.IsOver q → IsOver q
-      over_is (Found a j) h = absurd h
-      over_is (Wrong n) h = absurd h
-      over_is (Over n) h = tt
-
-      of : Outcome most Never (r.head P most S i) h i n → (r.head P most S i ≡ Found h n) ⊎ IsOver (r.head P most S i)
-      of (inl e) = inl e
-      of (inr x) = inr (over_is (r.head P most S i) x.0)
 
   -- where the imports are read without their checks, they are read with them, or one is a misfit
   imports_or_halt : (is : List ImportTree) (i : ℕ) → plain_imports ≡ Found is i → (the_imports ≡ Reads (Found is i)) ⊎ IsHalted the_imports
@@ -256,64 +235,52 @@ module _ (tokens : List Token) (most room : ℕ) (parts : Parts (place_of tokens
     where
       of : (q : Checked (List ImportTree)) → the_imports ≡ q → (q ≡ Reads (Found is i)) ⊎ IsHalted q
       of (Reads (Found js j)) same = let w = imports_found js j same in inl (ap Reads (sym w.0 ∙ e))
-      of (Reads (Wrong n)) same = let w = imports_are ∙ items.wrong most _ _ _ _ S _ _ _ _ _ _ _ _ (run.import_items tokens most room parts early) most [] 0 n same in let clash : Wrong n ≡ Found is i = sym w ∙ e in absurd (cc)
-      of (Reads (Over n)) same = inr tt
+      of (Reads (Wrong n)) same = let w = imports_are ∙ items.wrong most _ _ _ _ S _ _ _ _ _ _ _ (run.import_items tokens most room parts early) most [] 0 n same in let clash : Wrong n ≡ Found is i = sym w ∙ e in absurd (cc)
+      of (Reads (Over n at)) same = inr tt
       of (Misfits x) same = inr tt
 
-  imports_over : IsOver plain_imports → IsHalted the_imports
-  imports_over o = of the_imports refl
+  imports_passed : (is : List ImportTree) → Passed most Never plain_imports is 0 → IsHalted the_imports
+  imports_passed is x = of the_imports refl
     where
-      no_over : (q : Answer (List ImportTree)) → IsOver q → (c : List ImportTree) (j : ℕ) → q ≡ Found c j → ⊥
-      no_over (Found a j) o c n e = o
-      no_over (Wrong n) o c m e = o
-      no_over (Over n) o c m e = absurd (cc)
-
-      no_wrong : (q : Answer (List ImportTree)) → IsOver q → (j : ℕ) → q ≡ Wrong j → ⊥
-      no_wrong (Found a j) o n e = o
-      no_wrong (Wrong n) o m e = o
-      no_wrong (Over n) o m e = absurd (cc)
-
       of : (q : Checked (List ImportTree)) → the_imports ≡ q → IsHalted q
-      of (Reads (Found js j)) same = no_over plain_imports o js j (imports_found js j same).0
-      of (Reads (Wrong n)) same = no_wrong plain_imports o n (imports_are ∙ items.wrong most _ _ _ _ S _ _ _ _ _ _ _ _ (run.import_items tokens most room parts early) most [] 0 n same)
-      of (Reads (Over n)) same = tt
-      of (Misfits x) same = tt
+      of (Reads (Found js j)) same = let clash : Over x.place x.node ≡ Found js j = sym x.is ∙ (imports_found js j same).0 in absurd (cc)
+      of (Reads (Wrong n)) same =
+          absurd (over_no_wrong plain_imports x.place n x.node x.is (imports_are ∙ items.wrong most _ _ _ _ S _ _ _ _ _ _ _ (run.import_items tokens most room parts early) most [] 0 n same))
+      of (Reads (Over n at)) same = tt
+      of (Misfits y) same = tt
 
   -- behind the imports
   behind_imports : (is : List ImportTree) (i : ℕ) → Imports P S is 0 i → same_terminal (terminal (S i)) t.Import ≡ false → IsHalted (the_body is i) → IsHalted (checked_file P most room file S)
-  behind_imports is i d e h = subst IsHalted (sym checked_is) (of (same_imports is i d e))
+  behind_imports is i d e h = subst IsHalted (sym checked_is) (of (parts.imports_laws.complete S 0 is i d e))
     where
       next : (the_imports ≡ Reads (Found is i)) ⊎ IsHalted the_imports → IsHalted (then_checked the_imports (λ is i. the_body is i))
       next (inl e) = subst (λ (q : Checked (List ImportTree)). IsHalted (then_checked q (λ is i. the_body is i))) (sym e) h
       next (inr o) = then_halted the_imports (λ is i. the_body is i) o
 
-      of : (plain_imports ≡ Found is i) ⊎ IsOver plain_imports → IsHalted (then_checked the_imports (λ is i. the_body is i))
+      of : Outcome most Never plain_imports is 0 i → IsHalted (then_checked the_imports (λ is i. the_body is i))
       of (inl e) = next (imports_or_halt is i e)
-      of (inr o) = then_halted the_imports (λ is i. the_body is i) (imports_over o)
-
-  head_over : (i : ℕ) → IsOver (r.head P most S i) → IsHalted (the_head i)
-  head_over i o = part_over check_head (early_head P most S i) (r.head P most S i) o
+      of (inr o) = then_halted the_imports (λ is i. the_body is i) (imports_passed is o)
 
   -- behind what stands before the members
   behind_head : (is : List ImportTree) (h : ClassHead) (i n : ℕ) → Head P S h i n → ((check_head h n ≡ Reads (Found h n)) → IsHalted (the_rest is h n)) → IsHalted (the_body is i)
-  behind_head is h i n d go = of (same_head h i n d)
+  behind_head is h i n d go = of (parts.head_laws.complete S i h n d tt)
     where
       checked : (q : Checked ClassHead) → check_head h n ≡ q → IsHalted (then_checked q (λ h n. the_rest is h n))
       checked (Reads (Found c m)) e =
           let w = misfit_found (head_misfit h.annotations h.modifiers h.kind) h c n m e in
           subst (λ (m : ℕ). IsHalted (the_rest is c m)) (sym w.1) (subst (λ (c : ClassHead). IsHalted (the_rest is c n)) (sym w.0) (go (misfit_fit (head_misfit h.annotations h.modifiers h.kind) h n w.2)))
       checked (Reads (Wrong m)) e = absurd (misfit_wrong (head_misfit h.annotations h.modifiers h.kind) h n m e)
-      checked (Reads (Over m)) e = tt
+      checked (Reads (Over m at)) e = tt
       checked (Misfits x) e = tt
 
-      of : (r.head P most S i ≡ Found h n) ⊎ IsOver (r.head P most S i) → IsHalted (the_body is i)
+      of : Outcome most Never (r.head P most S i) h i n → IsHalted (the_body is i)
       of (inl e) = subst (λ (q : Answer ClassHead). IsHalted (then_checked (checked_part check_head (early_head P most S i) q) (λ h n. the_rest is h n))) (sym e) (checked (check_head h n) refl)
-      of (inr o) = then_halted (the_head i) (λ h n. the_rest is h n) (head_over i o)
+      of (inr o) = then_halted (the_head i) (λ h n. the_rest is h n) (passed_halted check_head (early_head P most S i) (r.head P most S i) h i o)
 
   pub file_met : (x : Misfit) → FirstMisfit tokens x → IsHalted (checked_file P most room file S)
   file_met x (of_import {is} {a} {i} {j} d fit e mis) =
       subst IsHalted (sym checked_is) (then_halted the_imports (λ is i. the_body is i)
-      (items.met most _ _ _ _ S _ _ _ _ _ _ _ _ (run.import_items tokens most room parts early) most [] is a 0 i j x (parts.import_steps S is 0 i d) e mis))
+      (items.met most _ _ _ _ S _ _ _ _ _ _ _ (run.import_items tokens most room parts early) most [] is a 0 i j x (parts.import_steps S is 0 i d) e mis))
   file_met x (of_head {is} {h} {i} {j} d fit e mis) =
       behind_imports is i d (parts.head_begins S h i j e)
       (behind_head is h i j e (λ same. absurd (not_both (head_misfit h.annotations h.modifiers h.kind) mis (misfit_found (head_misfit h.annotations h.modifiers h.kind) h h j j same).2)))
@@ -324,7 +291,7 @@ module _ (tokens : List Token) (most room : ℕ) (parts : Parts (place_of tokens
   file_met x (of_member {is} {h} {ms} {a} {i} {k = n} {n = o} {j} d fit e fits all all_fit part mis) =
       behind_imports is i d (parts.head_begins S h i n e)
       (behind_head is h i n e (λ same. then_halted (the_members h n) (λ ms o. Reads (closed P most room file is h ms S o))
-      (items.met most _ _ _ _ S _ _ _ _ _ _ _ _ (run.member_items tokens most room parts early h n) most [] ms a n o j x (parts.member_steps S ms n o all) part mis)))
+      (items.met most _ _ _ _ S _ _ _ _ _ _ _ (run.member_items tokens most room parts early h n) most [] ms a n o j x (parts.member_steps S ms n o all) part mis)))
   file_met x (of_mark_of_head {is} {i} d fit mark) =
       behind_imports is i d (early.head_begins i x mark)
       (then_halted (the_head i) (λ h n. the_rest is h n) (part_halted check_head (early_head P most S i) (r.head P most S i)
@@ -333,70 +300,38 @@ module _ (tokens : List Token) (most room : ℕ) (parts : Parts (place_of tokens
   file_met x (of_mark_of_member {is} {h} {ms} {i} {k = n} {n = o} d fit e fits all all_fit mark) =
       behind_imports is i d (parts.head_begins S h i n e)
       (behind_head is h i n e (λ same. then_halted (the_members h n) (λ ms o. Reads (closed P most room file is h ms S o))
-      (items.begun most _ _ _ _ S _ _ _ _ _ _ _ _ (run.member_items tokens most room parts early h n) most [] ms n o x (parts.member_steps S ms n o all) mark)))
+      (items.begun most _ _ _ _ S _ _ _ _ _ _ _ (run.member_items tokens most room parts early h n) most [] ms n o x (parts.member_steps S ms n o all) mark)))
 
   -- ---- too deep
 
-  no_found_over : {A : Type 0} (q : Answer A) (a : A) (j : ℕ) → q ≡ Found a j → IsOver q → ⊥
-  no_found_over (Found b n) a j e h = h
-  no_found_over (Wrong n) a j e h = h
-  no_found_over (Over n) a j e h = absurd (cc)
-
-  head_no_over : (h : ClassHead) (n i : ℕ) → r.head P most S i ≡ Found h n → IsOverChecked (the_head i) → ⊥
-  head_no_over h n i e o = misfit_no_over (head_misfit h.annotations h.modifiers h.kind) h n (subst (λ (q : Answer ClassHead). IsOverChecked (checked_part check_head (early_head P most S i) q)) e o)
-
-  -- where checked reading passes a limit and the other does not, a member is too deep
-  pub file_deep : (a : ClassTree) (j : ℕ) → IsOverChecked (checked_file P most room file S) → plain_file ≡ Found a j → DeepMembers room a.members
-  file_deep a j o e = of (whole_of a j e) (then_over the_imports (λ is i. the_body is i) (subst IsOverChecked checked_is o))
+  -- where checked reading passes a limit, the other passes it, too
+  pub file_over : (n : ℕ) (at : Span) → checked_file P most room file S ≡ Reads (Over n at) → plain_file ≡ Over n at
+  file_over n at e = file_is ∙ of (then_over the_imports (λ is i. the_body is i) n at (sym checked_is ∙ e))
     where
-      same_of : {A : Type 0} (b c : A) (m n : ℕ) → Found b m ≡ Found c n → (b ≡ c) × (m ≡ n)
-      same_of b c m n e = (cc, ap laws_of.stop e)
+      at_members : (is : List ImportTree) (h : ClassHead) (i : ℕ) → ((ms : List MemberTree) × (o : ℕ) × (the_members h i ≡ Reads (Found ms o)) × (Reads (closed P most room file is h ms S o) ≡ Reads (Over n at))) ⊎ (the_members h i ≡ Reads (Over n at)) → plain_rest is h i ≡ Over n at
+      at_members is h i (inl w) = ap (λ (q : Answer (List MemberTree)). and_then q (λ ms o. closed P most room file is h ms S o)) (members_found h i w.0 w.1 w.2).0 ∙ reads_is _ _ w.3
+      at_members is h i (inr e) = ap (λ (q : Answer (List MemberTree)). and_then q (λ ms o. closed P most room file is h ms S o)) (members_are i ∙ items.over_limit most _ _ _ _ S _ _ _ _ _ _ _ (run.member_items tokens most room parts early h i) most [] i n at e)
 
-      no_close : (is : List ImportTree) (h : ClassHead) (ms : List MemberTree) (o : ℕ) → IsOver (closed P most room file is h ms S o) → ⊥
-      no_close is h ms o over = absurd (closing (same_terminal (terminal (S o)) t.RightBrace) over)
-        where
-          closing : (b : Bool) → IsOver (cond b (Found (class_tree file is h ms (P o)) (suc o)) (Wrong o)) → ⊥
-          closing true h = h
-          closing false h = h
+      at_head : (is : List ImportTree) (i : ℕ) → ((h : ClassHead) × (m : ℕ) × (the_head i ≡ Reads (Found h m)) × (the_rest is h m ≡ Reads (Over n at))) ⊎ (the_head i ≡ Reads (Over n at)) → plain_body is i ≡ Over n at
+      at_head is i (inl w) = ap (λ (q : Answer ClassHead). and_then q (λ h n. plain_rest is h n)) (head_found i w.0 w.1 w.2).0 ∙ at_members is w.0 w.1 (then_over (the_members w.0 w.1) (λ ms o. Reads (closed P most room file is w.0 ms S o)) n at w.3)
+      at_head is i (inr e) = ap (λ (q : Answer ClassHead). and_then q (λ h n. plain_rest is h n)) (head_over i n at e)
 
-      deep_in : (w : Whole a j) → IsOverChecked (the_members w.head w.at_members) → DeepMembers room a.members
-      deep_in w over =
-          subst (λ (c : ClassTree). DeepMembers room c.members) (tree_is w.imports w.head w.members w.at_end a j w.closes)
-          (items.deep most _ _ _ _ S _ _ _ _ _ _ _ _ (run.member_items tokens most room parts early w.head w.at_members) most [] w.at_members w.members w.at_end over (sym (members_are w.at_members) ∙ w.members_read))
-
-      at_members : (w : Whole a j) → ((ms : List MemberTree) × (o : ℕ) × (the_members w.head w.at_members ≡ Reads (Found ms o)) × IsOverChecked (Reads (closed P most room file w.imports w.head ms S o))) ⊎ IsOverChecked (the_members w.head w.at_members) → DeepMembers room a.members
-      at_members w (inl v) = absurd (no_close w.imports w.head v.0 v.1 v.3)
-      at_members w (inr over) = deep_in w over
-
-      at_head : (w : Whole a j) → ((h : ClassHead) × (m : ℕ) × (the_head w.at_head ≡ Reads (Found h m)) × IsOverChecked (the_rest w.imports h m)) ⊎ IsOverChecked (the_head w.at_head) → DeepMembers room a.members
-      at_head w (inl v) =
-          let x = head_found w.at_head v.0 v.1 v.2 in
-          let z = same_of v.0 w.head v.1 w.at_members (sym x.0 ∙ w.head_read) in
-          at_members w (then_over (the_members w.head w.at_members) (λ ms o. Reads (closed P most room file w.imports w.head ms S o))
-          (subst (λ (n : ℕ). IsOverChecked (the_rest w.imports w.head n)) z.1 (subst (λ (h : ClassHead). IsOverChecked (the_rest w.imports h v.1)) z.0 v.3)))
-      at_head w (inr over) = absurd (head_no_over w.head w.at_members w.at_head w.head_read over)
-
-      of : Whole a j → ((is : List ImportTree) × (i : ℕ) × (the_imports ≡ Reads (Found is i)) × IsOverChecked (the_body is i)) ⊎ IsOverChecked the_imports → DeepMembers room a.members
-      of w (inl v) =
-          let x = imports_found v.0 v.1 v.2 in
-          let z = same_of v.0 w.imports v.1 w.at_head (sym x.0 ∙ w.imports_read) in
-          at_head w (then_over (the_head w.at_head) (λ h n. the_rest w.imports h n)
-          (subst (λ (i : ℕ). IsOverChecked (the_body w.imports i)) z.1 (subst (λ (is : List ImportTree). IsOverChecked (the_body is v.1)) z.0 v.3)))
-      of w (inr over) = absurd (items.deep most _ _ _ _ S _ _ _ _ _ _ _ _ (run.import_items tokens most room parts early) most [] 0 w.imports w.at_head over (sym imports_are ∙ w.imports_read))
+      of : ((is : List ImportTree) × (i : ℕ) × (the_imports ≡ Reads (Found is i)) × (the_body is i ≡ Reads (Over n at))) ⊎ (the_imports ≡ Reads (Over n at)) → and_then plain_imports (λ is i. plain_body is i) ≡ Over n at
+      of (inl w) = ap (λ (q : Answer (List ImportTree)). and_then q (λ is i. plain_body is i)) (imports_found w.0 w.1 w.2).0 ∙ at_head w.0 w.1 (then_over (the_head w.1) (λ h m. the_rest w.0 h m) n at w.3)
+      of (inr e) = ap (λ (q : Answer (List ImportTree)). and_then q (λ is i. plain_body is i)) (imports_are ∙ items.over_limit most _ _ _ _ S _ _ _ _ _ _ _ (run.import_items tokens most room parts early) most [] 0 n at e)
 
   -- ---- all fit
 
-  pub file_fits : (a : ClassTree) (j : ℕ) → plain_file ≡ Found a j → Fits a → (DeepMembers room a.members → ⊥) → checked_file P most room file S ≡ Reads (Found a j)
-  file_fits a j e fits low = of (whole_of a j e)
+  pub file_fits : (a : ClassTree) (j : ℕ) → plain_file ≡ Found a j → Fits a → checked_file P most room file S ≡ Reads (Found a j)
+  file_fits a j e fits = of (whole_of a j e)
     where
       of : Whole a j → checked_file P most room file S ≡ Reads (Found a j)
       of w =
           let tree = tree_is w.imports w.head w.members w.at_end a j w.closes in
           let f = subst Fits (sym tree) fits in
-          let l = subst (λ (c : ClassTree). DeepMembers room c.members → ⊥) (sym tree) low in
-          let x : the_imports ≡ Reads (Found w.imports w.at_head) = items.all_fit most _ _ _ _ S _ _ _ _ _ _ _ _ (run.import_items tokens most room parts early) most [] 0 w.imports w.at_head (sym imports_are ∙ w.imports_read) f.imports in
+          let x : the_imports ≡ Reads (Found w.imports w.at_head) = items.all_fit most _ _ _ _ S _ _ _ _ _ _ _ (run.import_items tokens most room parts early) most [] 0 w.imports w.at_head (sym imports_are ∙ w.imports_read) f.imports in
           let y : the_head w.at_head ≡ Reads (Found w.head w.at_members) = ap (λ (q : Answer ClassHead). checked_part check_head (early_head P most S w.at_head) q) w.head_read ∙ misfit_fit (head_misfit (w.head).annotations (w.head).modifiers (w.head).kind) w.head w.at_members f.head in
-          let z : the_members w.head w.at_members ≡ Reads (Found w.members w.at_end) = items.all_fit most _ _ _ _ S _ _ _ _ _ _ _ _ (run.member_items tokens most room parts early w.head w.at_members) most [] w.at_members w.members w.at_end (sym (members_are w.at_members) ∙ w.members_read) (f.members, l) in
+          let z : the_members w.head w.at_members ≡ Reads (Found w.members w.at_end) = items.all_fit most _ _ _ _ S _ _ _ _ _ _ _ (run.member_items tokens most room parts early w.head w.at_members) most [] w.at_members w.members w.at_end (sym (members_are w.at_members) ∙ w.members_read) f.members in
           checked_is ∙ (ap (λ (q : Checked (List ImportTree)). then_checked q (λ is i. the_body is i)) x
           ∙ (ap (λ (q : Checked ClassHead). then_checked q (λ h n. the_rest w.imports h n)) y
           ∙ (ap (λ (q : Checked (List MemberTree)). then_checked q (λ ms o. Reads (closed P most room file w.imports w.head ms S o))) z ∙ ap Reads w.closes)))

@@ -15,7 +15,7 @@ use Rattle.bj_grammar.specs.declared.terminal.Terminal.{Terminal}
 use Rattle.bj_grammar.specs.declared.terminal.Terminal.TheVariants as t
 use Rattle.bj_grammar.specs.Terminal.{terminal, same_terminal, among}
 use Rattle.bj_grammar.specs.Reader.{Text, Answer, Found, Wrong, Over}
-use Rattle.bj_grammar.proofs.Laws.{Completes, Outcome, IsOver, stop, is_kind, kind_is}
+use Rattle.bj_grammar.proofs.Laws.{Completes, Outcome, halted, stop, is_kind, kind_is}
 use Rattle.bj_expr.specs.Grammar as ge
 use Rattle.bj_expr.specs.Grammar.{Dims, TypeAt}
 use Rattle.bj_expr.specs.Reading.{type_at}
@@ -133,10 +133,15 @@ any_place (uncalled d w c e) = inl e
 either_place : {place : ℕ → Span} {kind : ClassKind} {u : Text} {q : ℕ} {x : Place} → Typed place kind u q x → IsAmong x (field_or_method kind)
 either_place v = elim (v.which) [ inl h ↦ inr (inl h.1) | inr h ↦ inl h.1 ]
 
+-- no limit is passed
+abbrev pub Within : {A : Type 0} → Answer A → Type 0
+Within r = (k : ℕ) (at : Span) → r ≡ Over k at → ⊥
+
 module _ (place : ℕ → Span) (most : ℕ) (given : Given place most) (kind : ClassKind) (s : Text) (q k : ℕ) (u : Text) (same : (x : ℕ) → x < k → u x ≡ s x) (below : q < k) where
   -- what is read before k in s is read in u
-  read_there : {ty : TypeTree} {j : ℕ} (r : Answer TypeTree) → type_at place most s q ≡ r → stop r < k → TypeAt place u ty q j → terminal (u j) ≡ t.Word → (r ≡ Found ty j) ⊎ IsOver r
-  read_there {ty} {j} r e h d w = of (given.type_laws.complete u q ty j d (is_not (terminal (u j)) t.Word t.LeftBracket w no_bracket.0))
+  read_there : {ty : TypeTree} {j : ℕ} (r : Answer TypeTree) → type_at place most s q ≡ r → stop r < k → TypeAt place u ty q j → terminal (u j) ≡ t.Word → Outcome most Never r ty q j
+  read_there {ty} {j} r e h d w =
+      subst (λ (x : Answer TypeTree). Outcome most Never x ty q j) alike (given.type_laws.complete u q ty j d (is_not (terminal (u j)) t.Word t.LeftBracket w no_bracket.0))
     where
       at : stop (type_at place most s q) ≡ stop r
       at = ap stop e
@@ -144,19 +149,15 @@ module _ (place : ℕ → Span) (most : ℕ) (given : Given place most) (kind : 
       alike : type_at place most u q ≡ r
       alike = given.type_laws.local s u q (λ x l. same x (omega (arith, at, h, l))) ∙ e
 
-      of : Outcome most Never (type_at place most u q) ty q j → (r ≡ Found ty j) ⊎ IsOver r
-      of (inl x) = inl (sym alike ∙ x)
-      of (inr x) = inr (subst IsOver alike x.0)
-
   found_there : {ty other : TypeTree} {o j : ℕ} → type_at place most s q ≡ Found ty o → o < k → TypeAt place u other q j → terminal (u j) ≡ t.Word → j ≡ o
   found_there {ty} {other} {o} {j} e h d w = of (read_there (Found ty o) e h d w)
     where
-      of : (Found ty o ≡ Found other j) ⊎ IsOver (Found ty o) → j ≡ o
+      of : Outcome most Never (Found ty o) other q j → j ≡ o
       of (inl x) = ap stop (sym x)
-      of (inr x) = absurd x
+      of (inr x) = let clash : Found ty o ≡ Over x.place x.node = x.is in absurd (cc)
 
   -- a type that ends well before k is found, unless there is a limit
-  known_end : {ty : TypeTree} {j : ℕ} (r : Answer TypeTree) → type_at place most s q ≡ r → (IsOver r → ⊥) → TypeAt place u ty q j → terminal (u j) ≡ t.Word → suc j < k
+  known_end : {ty : TypeTree} {j : ℕ} (r : Answer TypeTree) → type_at place most s q ≡ r → Within r → TypeAt place u ty q j → terminal (u j) ≡ t.Word → suc j < k
       → (other : TypeTree) × (r ≡ Found other j)
   known_end {ty} {j} (Found other o) e limit d w h = of (cases_lt o k)
     where
@@ -165,9 +166,9 @@ module _ (place : ℕ → Span) (most : ℕ) (given : Given place most) (kind : 
       of (inr l) = absurd (type_no_word place s other q o j (given.type_laws.sound s q other o e) (given.type_forward u ty q j d) (omega arith) (ap terminal (sym (same j (omega arith))) ∙ w))
   known_end {ty} {j} (Wrong o) e limit d w h = of (cases_lt o k)
     where
-      never : (Wrong o ≡ Found ty j) ⊎ IsOver {A = TypeTree} (Wrong o) → ⊥
+      never : Outcome most Never (Wrong o) ty q j → ⊥
       never (inl x) = absurd (cc)
-      never (inr x) = x
+      never (inr x) = let is = x.is in absurd (cc)
 
       stuck : k ≤ o → Completes (λ s a i j. TypeAt place s a i j) s q o → ⊥
       stuck l c =
@@ -176,8 +177,8 @@ module _ (place : ℕ → Span) (most : ℕ) (given : Given place most) (kind : 
 
       of : (o < k) ⊎ (k ≤ o) → (some : TypeTree) × (Wrong o ≡ Found some j)
       of (inl l) = absurd (never (read_there (Wrong o) e l d w))
-      of (inr l) = absurd (stuck l (given.type_laws.viable s q o e))
-  known_end (Over o) e limit d w h = absurd (limit tt)
+      of (inr l) = absurd (stuck l (given.type_laws.viable s q o (ap halted e)))
+  known_end (Over o at) e limit d w h = absurd (limit o at refl)
 
   first_same : u q ≡ s q
   first_same = same q below
@@ -216,7 +217,7 @@ module _ (place : ℕ → Span) (most : ℕ) (given : Given place most) (kind : 
 
   of_typed : {x : Place} (r : Answer TypeTree) → type_at place most s q ≡ r → Typed place kind u q x → IsAmong x (typed_places kind s k r)
   of_typed (Wrong o) e v = either_place v
-  of_typed (Over o) e v = either_place v
+  of_typed (Over o at) e v = either_place v
   of_typed {x} (Found ty o) e v =
       among_if x (nat_lt (suc o) k) _ _
       (λ lt. let l : suc o < k = ltb-true _ _ lt in let at = found_there e (omega arith) v.stands v.name in decided (same (suc o) l) at)
@@ -245,7 +246,7 @@ module _ (place : ℕ → Span) (most : ℕ) (given : Given place most) (kind : 
 
 -- Behind the marks the reader of types passes no limit. Where it does, both a field and a method are in the list, though the tokens may tell which of the two it is.
 abbrev pub Unlimited : (ℕ → Span) → ℕ → Text → ℕ → ℕ → Type 0
-Unlimited place most s q k = q < k → same_terminal (terminal (s q)) t.Void ≡ false → is_called s q ≡ false → IsOver (type_at place most s q) → ⊥
+Unlimited place most s q k = q < k → same_terminal (terminal (s q)) t.Void ≡ false → is_called s q ≡ false → Within (type_at place most s q)
 
 -- given a member of a place, which goes on in another text u from the tokens before k
 module _ (place : ℕ → Span) (most : ℕ) (given : Given place most) (kind : ClassKind) (s : Text) (q k : ℕ) (u : Text) (same : (x : ℕ) → x < k → u x ≡ s x) (below : q < k)
@@ -266,7 +267,7 @@ module _ (place : ℕ → Span) (most : ℕ) (given : Given place most) (kind : 
   unknown v le (inr (inl e)) = subst (Has place most given kind s n k) (sym e) (a_method place most given kind s n k u same annotations_there modifiers_there v.stands v.name le)
   unknown v le (inr (inr e)) = absurd e
 
-  typed_sound : (r : Answer TypeTree) → type_at place most s q ≡ r → (IsOver r → ⊥) → Typed place kind u q own
+  typed_sound : (r : Answer TypeTree) → type_at place most s q ≡ r → Within r → Typed place kind u q own
       → IsAmong owner (typed_places kind s k r) → IsAmong own (typed_places kind s k r) → Has place most given kind s n k owner
   typed_sound (Found ty o) e limit v x y =
       both_if owner own (nat_lt (suc o) k) _ _
@@ -287,9 +288,9 @@ module _ (place : ℕ → Span) (most : ℕ) (given : Given place most) (kind : 
         where
           not_found : {ty : TypeTree} {j : ℕ} → Wrong o ≡ Found ty j → ⊥
           not_found e = absurd (cc)
-  typed_sound (Over o) e limit v a b = absurd (limit tt)
+  typed_sound (Over o at) e limit v a b = absurd (limit o at refl)
 
-  named_sound : same_terminal (terminal (s q)) t.Void ≡ false → (is_called s q ≡ false → IsOver (type_at place most s q) → ⊥)
+  named_sound : same_terminal (terminal (s q)) t.Void ≡ false → (is_called s q ≡ false → Within (type_at place most s q))
       → IsAmong owner (named_places place most kind s q k) → IsAmong own (named_places place most kind s q k) → Has place most given kind s n k owner
   named_sound void limit =
       both_if owner own (same_terminal (terminal (s q)) t.Word && not (nat_lt (suc q) k)) _ _
@@ -300,7 +301,7 @@ module _ (place : ℕ → Span) (most : ℕ) (given : Given place most) (kind : 
       one_word : (same_terminal (terminal (s q)) t.Word ≡ true) × (not (nat_lt (suc q) k) ≡ true) → IsAmong owner (any_member kind) → Has place most given kind s n k owner
       one_word w a = any_made place most given kind s n k s (λ x l. refl) annotated modified (kind_is _ _ w.0) (ltb-false _ _ (not-true _ w.1)) owner a
 
-  behind_sound : (same_terminal (terminal (s q)) t.Void ≡ false → is_called s q ≡ false → IsOver (type_at place most s q) → ⊥)
+  behind_sound : (same_terminal (terminal (s q)) t.Void ≡ false → is_called s q ≡ false → Within (type_at place most s q))
       → IsAmong owner (member_places place most kind s q k) → IsAmong own (member_places place most kind s q k) → Has place most given kind s n k owner
   unfolding member_places
   behind_sound limit =

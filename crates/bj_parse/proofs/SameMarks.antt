@@ -15,13 +15,14 @@ use Rattle.bj_rules.specs.Rules.{annotation_misfit, annotations_misfit}
 use Rattle.bj_grammar.specs.declared.terminal.Terminal.{Terminal}
 use Rattle.bj_grammar.specs.declared.terminal.Terminal.TheVariants as t
 use Rattle.bj_grammar.specs.Terminal.{terminal, same_terminal, among}
-use Rattle.bj_grammar.specs.Reader.{Text, Answer, Found, Wrong, Over, Parser, and_then, ◌>>=◌, pure, over, sign, word, loop}
+use Rattle.bj_grammar.specs.Reader.{Text, Answer, Found, Wrong, Over, Parser, and_then, ◌>>=◌, pure, over, nowhere, sign, word, loop}
 use Rattle.bj_grammar.specs.Given.{text_of, place_of}
 use Rattle.bj_grammar.proofs.Laws.{stop, kind_is, is_kind, and_then_found}
 use Rattle.bj_grammar.proofs.TextLemmas.{end_other, none_at_end}
 use Rattle.bj_stmt.specs.Grammar.{named}
 use Rattle.bj_class.specs.Grammar as g
 use Rattle.bj_stmt.specs.Reading.{name_at}
+use Rattle.bj_stmt.proofs.Ahead.{forth}
 use Rattle.bj_stmt.proofs.Leftmost.{each, is_not, or_split}
 use Rattle.bj_class.specs.Grammar.{expected, Annotation, Annotations, ModifierList, modifier, modifier_words}
 use Rattle.bj_class.specs.Reading as r
@@ -30,6 +31,7 @@ use Rattle.bj_class.proofs.NoteLaws.{annotation_laws, annotation_begins, modifie
 use Rattle.bj_parse.specs.declared.annotations.AnnotationsEnd.{AnnotationsEnd}
 use Rattle.bj_parse.specs.declared.annotations.AnnotationsEnd.TheVariants as ends
 use Rattle.bj_parse.specs.Early.{annotations_end, annotation_end, behind_one, judged}
+use Rattle.bj_parse.proofs.Ends.{over_in}
 
 -- ---- one annotation
 
@@ -111,7 +113,7 @@ module _ (place : ℕ → Span) (most : ℕ) where
       of : (y : Answer NamedPlace) → with_class s i (and_then y (λ c j. Found (Some c) j)) ≡ Found c j → ⊥
       of (Found x m) h = absurd (cc)
       of (Wrong m) h = absurd (cc)
-      of (Over m) h = absurd (cc)
+      of (Over m at) h = absurd (cc)
 
   -- what is read stands with its parentheses
   note_whole : (s : Text) (i : ℕ) (c : AnnotationTree) (j : ℕ) → r.annotation place most s i ≡ Found c j → terminal (s (suc (suc i))) ≡ t.LeftParen → suc (suc i) < j
@@ -225,7 +227,7 @@ module _ (place : ℕ → Span) (most : ℕ) where
       → Turns s (behind_one (annotation_end y) f) x
   by_answer s x f again is_at (Found c j) read = by_misfit s x f again is_at c j read (annotation_misfit c) refl
   by_answer s x f again is_at (Wrong k) read = within refl
-  by_answer s x f again is_at (Over k) read = within refl
+  by_answer s x f again is_at (Over k at) read = within refl
 
   by_at : (s : Text) (x : ℕ) (e : AnnotationsEnd) (b : Bool) → same_terminal (terminal (s x)) t.At ≡ b → (b ≡ true → Turns s e x) → Turns s (cond b e (ends.Behind x)) x
   by_at s x e true is h = h refl
@@ -241,7 +243,7 @@ module _ (place : ℕ → Span) (most : ℕ) where
   turns_onward s {x = x} i (ended none is) end = let at : ends.Behind x ≡ ends.Behind i = sym is ∙ end in let same : x ≡ i = cc in omega arith
   turns_onward s {x = x} i (turn {j = j} is_at read fit rest) end =
       let h = turns_onward s i rest end in
-      let first_end : x ≤ j = subst (λ (m : ℕ). x ≤ m) (ap stop read) ((annotation_laws place most).onward s x) in
+      let first_end : x ≤ j = subst (λ (m : ℕ). x ≤ m) (ap stop read) (forth (annotation_laws place most) s x) in
       omega arith
   turns_onward s i (stopped {z = z} read is end) e = let no : ends.Unfit z ≡ ends.Behind i = sym end ∙ e in absurd (cc)
   turns_onward s i (within is) e = let no : ends.Within ≡ ends.Behind i = sym is ∙ e in absurd (cc)
@@ -263,7 +265,7 @@ module _ (place : ℕ → Span) (most : ℕ) where
   notes_end s u {x = x} i k (turn {c = c} {j = y} is_at read fit rest) end below same d no_at no_paren = of (λ b f. notes_end s u i k rest end below same f no_at no_paren) d no_at no_paren
     where
       onward : x ≤ y
-      onward = subst (λ (m : ℕ). x ≤ m) (ap stop read) ((annotation_laws place most).onward s x)
+      onward = subst (λ (m : ℕ). x ≤ m) (ap stop read) (forth (annotation_laws place most) s x)
 
       ends_before : y ≤ i
       ends_before = turns_onward s i rest end
@@ -294,7 +296,7 @@ loop_case test s a b i j goes false is f e = let at : i ≡ j = cc in subst (λ 
 
 loop_ends : {A : Type 0} (test : Terminal → Bool) (step : A → Parser A) (m : ℕ) (a b : A) (s : Text) (i j : ℕ) → loop m test step a s i ≡ Found b j → test (terminal (s j)) ≡ false
 unfolding loop
-loop_ends test step zero a b s i j e = loop_case test s a b i j (over s i) (test (terminal (s i))) refl (λ h. absurd (cc)) e
+loop_ends test step zero a b s i j e = loop_case test s a b i j (over (λ _. nowhere) s i) (test (terminal (s i))) refl (λ h. absurd (cc)) e
 loop_ends test step (suc m) a b s i j e = loop_case test s a b i j ((step a >>= loop m test step) s i) (test (terminal (s i))) refl
     (λ h. let w = and_then_found (step a s i) (λ c k. loop m test step c s k) b j h in loop_ends test step m w.0 b s w.1 j w.3) e
 
@@ -399,17 +401,13 @@ module _ (tokens : List Token) where
       let stands : ModifierList P S (before ++ modifier (P p) (S p) ∷ w.0) i w.1 = subst (λ (y : List Modifier). ModifierList P S y i w.1) (append_assoc before (modifier (P p) (S p) ∷ []) w.0) w.3 in
       let low : i ≤ p = modifiers_forward P most S d in
       let high : p < w.1 = w.2 in
-      let before_end : p < length tokens = elim (cases_lt p (length tokens)) [ inl h ↦ h | inr h ↦ absurd (never_both _ is_one (past_modifiers p h)) ] in
-      let inside : w.1 ≤ length tokens = elim (cases_lt (length tokens) w.1) [
-        | inl h ↦ absurd (never_both _ (each_modifier P most S stands (length tokens) (omega arith) h) (past_modifiers (length tokens) (le_refl (length tokens))))
-        | inr h ↦ h
-      ] in (
+      let before_end : p < length tokens = elim (cases_lt p (length tokens)) [ inl h ↦ h | inr h ↦ absurd (never_both _ is_one (past_modifiers p h)) ] in (
         w.0,
         w.1,
         high,
         elim ((modifiers_laws P most).complete S i (before ++ modifier (P p) (S p) ∷ w.0) w.1 stands w.4) [
           | inl h ↦ h
-          | inr h ↦ elim h.1 [ inl x ↦ absurd x | inr x ↦ absurd (omega arith) ]
+          | inr h ↦ elim h.why [ inl x ↦ absurd x | inr x ↦ absurd (let end : h.place ≤ length tokens = over_in (modifiers_laws P most) tokens i (omega arith) h.place h.node h.is in omega arith) ]
         ],
         w.4,
       )

@@ -1,22 +1,18 @@
 -- The reader of files, which checks each part as it stands, as a function on texts.
-use Rattle.std.specs.Prelude.{◌≡◌, ℕ, zero, suc, Bool, false, if◌then◌else◌, nat_lt, List, [], ◌∷◌, ◌++◌, map, Option, Some, None, Result, Ok, Err}
+use Rattle.std.specs.Prelude.{◌≡◌, ℕ, zero, suc, Bool, if◌then◌else◌, List, [], ◌∷◌, ◌++◌, Option, Some, None, Result, Ok, Err}
 use Rattle.bj_core.specs.declared.types.Span.{Span}
-use Rattle.bj_tree.specs.declared.stmt.StmtTree.{StmtTree}
 use Rattle.bj_tree.specs.declared.class.ImportTree.{ImportTree}
 use Rattle.bj_tree.specs.declared.class.ClassTree.{ClassTree}
 use Rattle.bj_tree.specs.declared.member.MemberTree.{MemberTree}
-use Rattle.bj_tree.specs.declared.member.MemberTree.TheVariants as m
-use Rattle.bj_tree.specs.Size.{most}
 use Rattle.bj_rules.specs.declared.misfit.Misfit.{Misfit}
 use Rattle.bj_rules.specs.Rules.{import_misfit, head_misfit, member_misfit}
 use Rattle.bj_grammar.specs.declared.stop.Stop.TheVariants as f
 use Rattle.bj_grammar.specs.declared.terminal.Terminal.{Terminal}
 use Rattle.bj_grammar.specs.declared.terminal.Terminal.TheVariants as t
 use Rattle.bj_grammar.specs.Terminal.{terminal}
-use Rattle.bj_grammar.specs.Reader.{Text, Answer, Found, Wrong, Over, Parser, over, here, sign, pure}
-use Rattle.bj_grammar.specs.Given.{IsOver}
+use Rattle.bj_grammar.specs.Reader.{Text, Answer, Found, Wrong, Over, Parser, over, nowhere, here, sign, pure}
+use Rattle.bj_grammar.specs.Given.{IsDeepAt}
 use Rattle.bj_expr.specs.Reading.{is}
-use Rattle.bj_stmt.specs.Heights.{stmt_height, variable_height}
 use Rattle.bj_stmt.specs.Reading.{inside}
 use Rattle.bj_class.specs.declared.head.ClassHead.{ClassHead}
 use Rattle.bj_class.specs.Grammar.{class_tree}
@@ -33,7 +29,7 @@ pub data Checked (A : Type 0) : Type 0 where
 abbrev pub then_checked : {A B : Type 0} → Checked A → (A → ℕ → Checked B) → Checked B
 then_checked (Reads (Found a j)) f = f a j
 then_checked (Reads (Wrong k)) f = Reads (Wrong k)
-then_checked (Reads (Over k)) f = Reads (Over k)
+then_checked (Reads (Over k at)) f = Reads (Over k at)
 then_checked (Misfits x) f = Misfits x
 
 -- a part that was read, unless it is a misfit
@@ -50,26 +46,12 @@ unless_early (Some x) k = Misfits x
 abbrev pub checked_part : {A : Type 0} → (A → ℕ → Checked A) → (ℕ → Option Misfit) → Answer A → Checked A
 checked_part check early (Found a j) = check a j
 checked_part check early (Wrong k) = unless_early (early k) k
-checked_part check early (Over k) = Reads (Over k)
+checked_part check early (Over k at) = Reads (Over k at)
 
 -- parts while the next token passes the test, each checked as it stands
 unfoldable pub checked_items : {A : Type 0} → (Terminal → Bool) → Parser A → (A → ℕ → Checked A) → (ℕ → ℕ → Option Misfit) → Text → ℕ → List A → ℕ → Checked (List A)
-checked_items test item check early s zero b i = if test (terminal (s i)) then Reads (over s i) else Reads (Found b i)
+checked_items test item check early s zero b i = if test (terminal (s i)) then Reads (over (λ _. nowhere) s i) else Reads (Found b i)
 checked_items test item check early s (suc n) b i = if test (terminal (s i)) then then_checked (checked_part check (early i) (item s i)) (λ a j. checked_items test item check early s n (b ++ a ∷ []) j) else Reads (Found b i)
-
--- ---- parts that are too deep
-
-abbrev pub is_deep_body : ℕ → Option StmtTree → Bool
-is_deep_body room None = false
-is_deep_body room (Some b) = nat_lt room (stmt_height b)
-
--- whether a body or an initializer has more nodes on some way down than there is room
-abbrev pub is_deep_member : ℕ → MemberTree → Bool
-is_deep_member room (m.Field f) = nat_lt (suc room) (most (map variable_height f.variables))
-is_deep_member room (m.Method f) = is_deep_body room f.body
-is_deep_member room (m.Constructor f) = nat_lt room (stmt_height f.body)
-is_deep_member room (m.Initializer f) = nat_lt room (stmt_height f.body)
-is_deep_member room (m.Empty at) = false
 
 -- ---- the parts of a file
 
@@ -79,8 +61,8 @@ check_import a j = unless_misfit (import_misfit a) a j
 abbrev pub check_head : ClassHead → ℕ → Checked ClassHead
 check_head h j = unless_misfit (head_misfit h.annotations h.modifiers h.kind) h j
 
-abbrev pub check_member : ℕ → ClassHead → MemberTree → ℕ → Checked MemberTree
-check_member room h a j = if is_deep_member room a then Reads (Over j) else unless_misfit (member_misfit h.kind h.name.name a) a j
+abbrev pub check_member : ClassHead → MemberTree → ℕ → Checked MemberTree
+check_member h a j = unless_misfit (member_misfit h.kind h.name.name a) a j
 
 -- an import is judged as a whole alone
 abbrev pub nothing_early : ℕ → ℕ → Option Misfit
@@ -94,7 +76,7 @@ module _ (place : ℕ → Span) (steps room : ℕ) where
   checked_head s i = checked_part check_head (early_head place steps s i) (head place steps s i)
 
   abbrev pub checked_members : ClassHead → Text → ℕ → List MemberTree → ℕ → Checked (List MemberTree)
-  checked_members h s = checked_items inside (member place steps room) (check_member room h) (early_member place steps h.kind s) s
+  checked_members h s = checked_items inside (member place steps room) (check_member h) (early_member place steps h.kind s) s
 
   -- the closing brace, behind all members
   abbrev pub closed : List ℕ → List ImportTree → ClassHead → List MemberTree → Parser ClassTree
@@ -108,14 +90,15 @@ module _ (place : ℕ → Span) (steps room : ℕ) where
 
 -- ---- what the functions that read give
 
-abbrev pub IsOverChecked : {A : Type 0} → Checked A → Type 0
-IsOverChecked (Reads r) = IsOver r
-IsOverChecked (Misfits x) = ⊥
+-- the limit of depth is passed by a node that stands there
+abbrev pub IsDeepChecked : {A : Type 0} → Span → Checked A → Type 0
+IsDeepChecked at (Reads r) = IsDeepAt at r
+IsDeepChecked at (Misfits x) = ⊥
 
 abbrev pub HaltsAs : {A : Type 0} → Halt → Checked A → Type 0
 HaltsAs (halts.Stopped f.Memory) r = Unit {0}
 HaltsAs (halts.Stopped (f.Syntax at)) r = r ≡ Reads (Wrong at)
-HaltsAs (halts.Stopped (f.Deep at)) r = IsOverChecked r
+HaltsAs (halts.Stopped (f.Deep at)) r = IsDeepChecked at r
 HaltsAs (halts.Unfit x) r = r ≡ Misfits x
 
 -- what a function returned is what the reader comes to, unless memory ran out

@@ -1,5 +1,5 @@
 -- What the tokens of a file are, and what reading one promises.
-use Rattle.std.specs.Prelude.{◌≡◌, ℕ, suc, ◌≤◌, Bool, ◌&&◌, ◌||◌, not, if◌then◌else◌, ◌⊎◌, List, [], ◌∷◌, length, Some, None, Result, Ok, Err}
+use Rattle.std.specs.Prelude.{◌≡◌, ℕ, suc, ◌≤◌, ◌+◌, Bool, ◌&&◌, ◌||◌, not, if◌then◌else◌, ◌⊎◌, List, [], ◌∷◌, length, Some, None, Result, Ok, Err}
 use Rattle.bj_core.specs.declared.types.Span.{Span}
 use Rattle.bj_core.specs.declared.fault.FaultCode.{FaultCode}
 use Rattle.bj_core.specs.declared.fault.FaultCode.TheVariants as codes
@@ -21,10 +21,10 @@ use Rattle.bj_grammar.specs.Given.{text_of, place_of}
 use Rattle.bj_expr.specs.Grammar.{leasts}
 use Rattle.bj_class.specs.declared.head.ClassHead.{ClassHead}
 use Rattle.bj_class.specs.Grammar.{Imports, Import, Head, Members, Member, File, modifier_words}
-use Rattle.bj_class.specs.Deep.{DeepMembers}
+use Rattle.bj_class.specs.Deep.{HighMembers, DeepMembers}
 use Rattle.bj_parse.specs.Line.{most_nodes, SameBefore, back, class_words, is_left_out, spot}
 use Rattle.bj_parse.specs.Marks.{member_place, head_place, UnfitMark}
-use Rattle.bj_parse.specs.Checked.{Checked, IsOverChecked, checked_file}
+use Rattle.bj_parse.specs.Checked.{Checked, IsDeepChecked, checked_file}
 use Rattle.bj_parse.specs.declared.halt.Halt.{Halt}
 use Rattle.bj_parse.specs.declared.halt.Halt.TheVariants as halts
 
@@ -55,7 +55,7 @@ pub record Fits (a : ClassTree) : Type 0 where
 pub record IsClass (file : List ℕ) (tokens : List Token) (a : ClassTree) : Type 0 where
   pub stands : IsFile file tokens tokens a
   pub fits : Fits a
-  pub low : DeepMembers most_nodes a.members → ⊥
+  pub low : HighMembers most_nodes a.members → ⊥
 
 -- ---- the first part that does not fit
 
@@ -86,9 +86,12 @@ pub record FirstFault (file : List ℕ) (tokens : List Token) (at : ℕ) : Type 
   pub begins : (others : List Token) × (at ≤ length others) × SameBefore tokens others at × InFiles file tokens others
   pub no_more : (others : List Token) → SameBefore tokens others (suc at) → InFiles file tokens others → ⊥
 
--- each file that the tokens are has a body or an initializer with a node that has more than 200 nodes above it
-abbrev pub TooDeep : List ℕ → List Token → Type 0
-TooDeep file tokens = (a : ClassTree) → IsFile file tokens tokens a → DeepMembers most_nodes a.members
+-- The tokens before some place begin a file of the grammar, and in each file of the tokens that go on from these, and from the five behind them, a
+-- node at the span has more than 200 nodes above it in its body or initializer.
+pub record TooDeep (file : List ℕ) (tokens : List Token) (at : Span) : Type 0 where
+  pub place : ℕ
+  pub begins : (others : List Token) × (place ≤ length others) × SameBefore tokens others place × InFiles file tokens others
+  pub deep : (others : List Token) (a : ClassTree) → SameBefore tokens others (5 + place) → IsFile file tokens others a → DeepMembers most_nodes at a.members
 
 -- ---- the codes of faults
 
@@ -135,12 +138,12 @@ abbrev pub ClassFault : Result ClassTree Refusal → Tokens → Type 0
 ClassFault (Ok tree) tokens = Unit {0}
 ClassFault (Err refusals.NoMemory) tokens = Unit {0}
 ClassFault (Err (refusals.Fault fault)) tokens = (fault.class ≡ tokens.class)
-    × (((fault.code ≡ codes.Deep) × IsOverChecked (the_file tokens) × TooDeep tokens.class tokens.items) ⊎ (FirstMisfit tokens.items (record { at = fault.at; code = fault.code }) ⊎ IsFirst tokens fault.at fault.code))
+    × (((fault.code ≡ codes.Deep) × IsDeepChecked fault.at (the_file tokens) × TooDeep tokens.class tokens.items fault.at) ⊎ (FirstMisfit tokens.items (record { at = fault.at; code = fault.code }) ⊎ IsFirst tokens fault.at fault.code))
 
 -- the refusal is of what reading halts at, unless memory ran out
 abbrev pub IsRefusalOf : Tokens → Halt → Refusal → Type 0
 IsRefusalOf tokens halt refusals.NoMemory = Unit {0}
 IsRefusalOf tokens (halts.Stopped stops.Memory) (refusals.Fault fault) = ⊥
 IsRefusalOf tokens (halts.Stopped (stops.Syntax at)) (refusals.Fault fault) = (fault.class ≡ tokens.class) × (fault.at ≡ spot tokens at) × (fault.code ≡ member_code (text_of tokens.items) at)
-IsRefusalOf tokens (halts.Stopped (stops.Deep at)) (refusals.Fault fault) = (fault.class ≡ tokens.class) × (fault.at ≡ spot tokens at) × (fault.code ≡ codes.Deep)
+IsRefusalOf tokens (halts.Stopped (stops.Deep at)) (refusals.Fault fault) = (fault.class ≡ tokens.class) × (fault.at ≡ at) × (fault.code ≡ codes.Deep)
 IsRefusalOf tokens (halts.Unfit misfit) (refusals.Fault fault) = (fault.class ≡ tokens.class) × (fault.at ≡ misfit.at) × (fault.code ≡ misfit.code)

@@ -50,7 +50,7 @@ judged (Some x) j = ends.Unfit x
 abbrev pub annotation_end : Answer AnnotationTree → AnnotationsEnd
 annotation_end (Found note j) = judged (annotation_misfit note) j
 annotation_end (Wrong k) = ends.Within
-annotation_end (Over k) = ends.Within
+annotation_end (Over k at) = ends.Within
 
 abbrev pub behind_one : AnnotationsEnd → (ℕ → AnnotationsEnd) → AnnotationsEnd
 behind_one (ends.Behind j) rest = rest j
@@ -63,7 +63,7 @@ behind_one ends.Within rest = ends.Within
 abbrev pub typed_places : ClassKind → Text → ℕ → Answer TypeTree → List Place
 typed_places kind s k (Found type o) = if nat_lt (suc o) k then (if is t.LeftParen (terminal (s (suc o))) then method_place kind ∷ [] else field_place kind ∷ []) else field_or_method kind
 typed_places kind s k (Wrong o) = field_or_method kind
-typed_places kind s k (Over o) = field_or_method kind
+typed_places kind s k (Over o at) = field_or_method kind
 
 -- before `class`, before `interface`, or before either
 unfoldable pub head_places : Text → ℕ → ℕ → List Place
@@ -72,7 +72,7 @@ head_places s q k = if nat_lt q k then (if is t.Interface (terminal (s q)) then 
 abbrev pub modifiers_unfit : (ℕ → List Place) → Answer (List Modifier) → Option Misfit
 modifiers_unfit owners (Found ms q) = first_unfit (owners q) [] ms
 modifiers_unfit owners (Wrong o) = None
-modifiers_unfit owners (Over o) = None
+modifiers_unfit owners (Over o at) = None
 
 -- Given where each token stands, and how many steps a loop may take.
 module _ (place : ℕ → Span) (most : ℕ) where

@@ -1,5 +1,5 @@
 -- What the tokens of a console line are, and what reading one promises.
-use Rattle.std.specs.Prelude.{◌≡◌, ℕ, suc, ◌<◌, ◌≤◌, ◌-◌, Bool, ◌&&◌, ◌||◌, if◌then◌else◌, nat_lt, ◌⊎◌, List, [], ◌∷◌, length, map, Result, Ok, Err}
+use Rattle.std.specs.Prelude.{◌≡◌, ℕ, suc, ◌<◌, ◌≤◌, ◌+◌, ◌-◌, Bool, ◌&&◌, ◌||◌, if◌then◌else◌, nat_lt, ◌⊎◌, List, [], ◌∷◌, length, map, Result, Ok, Err}
 use Rattle.bj_core.specs.declared.types.Span.{Span}
 use Rattle.bj_core.specs.declared.fault.FaultCode.{FaultCode}
 use Rattle.bj_core.specs.declared.fault.FaultCode.TheVariants as codes
@@ -18,13 +18,15 @@ use Rattle.bj_grammar.specs.declared.terminal.Terminal.{Terminal}
 use Rattle.bj_grammar.specs.declared.terminal.Terminal.TheVariants as t
 use Rattle.bj_grammar.specs.Terminal.{terminal, same_terminal, among}
 use Rattle.bj_grammar.specs.Reader.{Text, Answer, Found, Wrong}
-use Rattle.bj_grammar.specs.Given.{text_of, place_of, IsOver}
+use Rattle.bj_grammar.specs.Given.{text_of, place_of, IsDeepAt}
 use Rattle.bj_expr.specs.declared.bounds.Bounds.{Bounds}
 use Rattle.bj_expr.specs.declared.part.Part.TheVariants as part
 use Rattle.bj_expr.specs.Grammar.{Expression, leasts}
-use Rattle.bj_expr.specs.Reading.{within}
+use Rattle.bj_expr.specs.Nodes.{HasNode}
+use Rattle.bj_expr.specs.Reading as expressions
 use Rattle.bj_stmt.specs.Grammar.{SomeStatements}
 use Rattle.bj_stmt.specs.Heights.{stmt_height}
+use Rattle.bj_stmt.specs.Nodes.{SomeStmtHasNode}
 use Rattle.bj_stmt.specs.Reading.{statements_within}
 use Rattle.bj_parse.specs.declared.outcome.Outcome.{Outcome}
 use Rattle.bj_parse.specs.declared.outcome.Outcome.TheVariants as o
@@ -72,7 +74,7 @@ abbrev pub line_bounds : List Token → Bounds
 line_bounds tokens = record { most = suc (length tokens); room = most_nodes }
 
 abbrev pub as_expression : List Token → Answer ExprTree
-as_expression tokens = within (place_of tokens) (line_bounds tokens) part.Expression (text_of tokens) 0
+as_expression tokens = expressions.nested (place_of tokens) (suc (length tokens)) most_nodes part.Expression (text_of tokens) 0
 
 abbrev pub as_statements : List Token → Answer (List StmtTree)
 as_statements tokens = statements_within (place_of tokens) (suc (length tokens)) most_nodes (text_of tokens) 0
@@ -81,37 +83,39 @@ as_statements tokens = statements_within (place_of tokens) (suc (length tokens))
 abbrev pub IsStuck : {A : Type 0} → List Token → Answer A → ℕ → Type 0
 IsStuck tokens answer k = (answer ≡ Wrong k) ⊎ ((a : _) × (answer ≡ Found a k) × (k < length tokens))
 
--- what a reader comes to on all tokens, where some trees are too high
-abbrev pub ComesTo : {A : Type 0} → (A → Type 0) → List Token → Answer A → Outcome A → Type 0
-ComesTo High tokens answer (o.Whole a) = (answer ≡ Found a (length tokens)) × (High a → ⊥)
-ComesTo High tokens answer (o.Stuck k) = IsStuck tokens answer k
-ComesTo High tokens answer (o.Deep k) = IsOver answer ⊎ ((a : _) × (answer ≡ Found a (length tokens)) × High a)
-
-abbrev pub HighExpression : ExprTree → Type 0
-HighExpression a = most_nodes < height_of a
-
-abbrev pub HighStatements : List StmtTree → Type 0
-HighStatements b = most_nodes < line_height b
+-- what a reader comes to on all tokens
+abbrev pub ComesTo : {A : Type 0} → List Token → Answer A → Outcome A → Type 0
+ComesTo tokens answer (o.Whole a) = answer ≡ Found a (length tokens)
+ComesTo tokens answer (o.Stuck k) = IsStuck tokens answer k
+ComesTo tokens answer (o.Deep at) = IsDeepAt at answer
 
 -- what the tokens come to as an expression, and as statements
 abbrev pub IsExpressionOutcome : List Token → Outcome ExprTree → Type 0
-IsExpressionOutcome tokens x = ComesTo HighExpression tokens (as_expression tokens) x
+IsExpressionOutcome tokens x = ComesTo tokens (as_expression tokens) x
 
 abbrev pub IsStatementsOutcome : List Token → Outcome (List StmtTree) → Type 0
-IsStatementsOutcome tokens x = ComesTo HighStatements tokens (as_statements tokens) x
+IsStatementsOutcome tokens x = ComesTo tokens (as_statements tokens) x
 
--- an expression goes too deep
-abbrev pub GoesTooDeep : List Token → Type 0
-GoesTooDeep tokens = IsOver (as_expression tokens) ⊎ ((a : ExprTree) × (as_expression tokens ≡ Found a (length tokens)) × HighExpression a)
+-- ---- nodes that are too deep
 
--- statements go too deep
-abbrev pub StatementsGoTooDeep : List Token → Type 0
-StatementsGoTooDeep tokens = IsOver (as_statements tokens) ⊎ ((b : List StmtTree) × (as_statements tokens ≡ Found b (length tokens)) × HighStatements b)
+-- a node at the place has more than 200 nodes above it
+abbrev pub IsDeepIn : Span → ExprTree → Type 0
+IsDeepIn at a = HasNode (suc most_nodes) at a
 
--- Reading the tokens as an expression or as statements passes the limit of depth, and a node of each line that they are has more
--- than 200 nodes above it.
-pub record TooDeep (tokens : List Token) : Type 0 where
-  pub passes : GoesTooDeep tokens ⊎ StatementsGoTooDeep tokens
+abbrev pub IsDeepAmong : Span → List StmtTree → Type 0
+IsDeepAmong at b = SomeStmtHasNode (suc most_nodes) at b
+
+-- The tokens before some place begin a tree of the kind, and in each tree of the tokens that go on from these, and from the five behind them, a
+-- node at the span is too deep.
+pub record DeepAt {A : Type 0} (Stands : List Token → A → Type 0) (IsDeep : Span → A → Type 0) (tokens : List Token) (at : Span) : Type 0 where
+  pub place : ℕ
+  pub begins : (others : List Token) × (place ≤ length others) × SameBefore tokens others place × ((a : A) × Stands others a)
+  pub deep : (others : List Token) (a : A) → SameBefore tokens others (5 + place) → Stands others a → IsDeep at a
+
+-- The place of a node that is too deep in each expression, or in all statements, that go on from the tokens so far. A node of each line that all the
+-- tokens are has more than 200 nodes above it.
+pub record TooDeep (tokens : List Token) (at : Span) : Type 0 where
+  pub node : DeepAt (IsExpression tokens) IsDeepIn tokens at ⊎ DeepAt (AreStatements tokens) IsDeepAmong tokens at
   pub expression : (a : ExprTree) → IsExpression tokens tokens a → most_nodes < height_of a
   pub statements : (b : List StmtTree) → AreStatements tokens tokens b → most_nodes < line_height b
 
@@ -121,7 +125,7 @@ abbrev pub StopsAt : Result LineTree Stop → List Token → Type 0
 StopsAt (Ok line) tokens = Unit {0}
 StopsAt (Err stops.Memory) tokens = Unit {0}
 StopsAt (Err (stops.Syntax at)) tokens = FirstFault tokens at
-StopsAt (Err (stops.Deep at)) tokens = TooDeep tokens
+StopsAt (Err (stops.Deep at)) tokens = TooDeep tokens at
 
 -- the result is this line, unless memory ran out
 abbrev pub StopsWith : Result LineTree Stop → LineTree → Type 0
@@ -192,11 +196,11 @@ pub record IsFirst (tokens : Tokens) (at : Span) (code : FaultCode) : Type 0 whe
 abbrev pub FaultAt : Result LineTree Refusal → Tokens → Type 0
 FaultAt (Ok line) tokens = Unit {0}
 FaultAt (Err refusals.NoMemory) tokens = Unit {0}
-FaultAt (Err (refusals.Fault fault)) tokens = (fault.class ≡ tokens.class) × (((fault.code ≡ codes.Deep) × TooDeep tokens.items) ⊎ IsFirst tokens fault.at fault.code)
+FaultAt (Err (refusals.Fault fault)) tokens = (fault.class ≡ tokens.class) × (((fault.code ≡ codes.Deep) × TooDeep tokens.items fault.at) ⊎ IsFirst tokens fault.at fault.code)
 
 -- the refusal is of a fault at the place where reading stops, unless memory ran out
 abbrev pub IsRefusalOf : Tokens → Stop → Refusal → Type 0
 IsRefusalOf tokens stop refusals.NoMemory = Unit {0}
 IsRefusalOf tokens stops.Memory (refusals.Fault fault) = ⊥
 IsRefusalOf tokens (stops.Syntax at) (refusals.Fault fault) = (fault.class ≡ tokens.class) × (fault.at ≡ spot tokens at) × (fault.code ≡ code_at (text_of tokens.items) at)
-IsRefusalOf tokens (stops.Deep at) (refusals.Fault fault) = (fault.class ≡ tokens.class) × (fault.at ≡ spot tokens at) × (fault.code ≡ codes.Deep)
+IsRefusalOf tokens (stops.Deep at) (refusals.Fault fault) = (fault.class ≡ tokens.class) × (fault.at ≡ at) × (fault.code ≡ codes.Deep)

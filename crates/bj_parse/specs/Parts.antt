@@ -1,5 +1,5 @@
 -- What the functions that read the parts of a file come to, on some tokens.
-use Rattle.std.specs.Prelude.{◌≡◌, ℕ, List, [], ◌∷◌, ◌++◌, Option, Some, None}
+use Rattle.std.specs.Prelude.{◌≡◌, ℕ, List, [], ◌∷◌, ◌++◌}
 use Rattle.bj_lex.specs.declared.token.Token.{Token}
 use Rattle.bj_tree.specs.declared.class.ImportTree.{ImportTree}
 use Rattle.bj_tree.specs.declared.class.ClassTree.{ClassTree}
@@ -14,7 +14,6 @@ use Rattle.bj_class.specs.declared.head.ClassHead.{ClassHead}
 use Rattle.bj_class.specs.Reading as r
 use Rattle.bj_parse.specs.Checked.{Checked, Reads, then_checked, unless_early, checked_part, checked_items, nothing_early, check_import, check_head, check_member, closed, checked_body, HaltsAs}
 use Rattle.bj_parse.specs.Early.{early_member, early_head}
-use Rattle.bj_parse.specs.Line.{most_nodes}
 use Rattle.bj_parse.specs.declared.halt.Halt.{Halt}
 
 abbrev pub one_import : List Token → Bounds → ℕ → Checked ImportTree
@@ -26,13 +25,8 @@ next_import tokens bounds b i = then_checked (one_import tokens bounds i) (λ a 
 abbrev pub imports_of : List Token → Bounds → ℕ → List ImportTree → ℕ → Checked (List ImportTree)
 imports_of tokens bounds = checked_items (is t.Import) (r.import_at (place_of tokens) bounds.most) check_import nothing_early (text_of tokens)
 
--- why a member that was read up to a place is not taken, if it is not
-abbrev pub IsMemberHalt : ClassHead → MemberTree → ℕ → Option Halt → Type 0
-IsMemberHalt h a j None = check_member most_nodes h a j ≡ Reads (Found a j)
-IsMemberHalt h a j (Some halt) = HaltsAs halt (check_member most_nodes h a j)
-
 abbrev pub one_member : List Token → Bounds → ClassHead → ℕ → Checked MemberTree
-one_member tokens bounds h i = checked_part (check_member bounds.room h) (early_member (place_of tokens) bounds.most h.kind (text_of tokens) i) (r.member (place_of tokens) bounds.most bounds.room (text_of tokens) i)
+one_member tokens bounds h i = checked_part (check_member h) (early_member (place_of tokens) bounds.most h.kind (text_of tokens) i) (r.member (place_of tokens) bounds.most bounds.room (text_of tokens) i)
 
 -- why a member from i on is not taken that the grammar stops at k
 abbrev pub IsMemberStop : List Token → Bounds → ClassHead → ℕ → ℕ → Halt → Type 0
@@ -46,7 +40,7 @@ abbrev pub next_member : List Token → Bounds → ClassHead → List MemberTree
 next_member tokens bounds h b i = then_checked (one_member tokens bounds h i) (λ a j. Reads (Found (b ++ a ∷ []) j))
 
 abbrev pub members_of : List Token → Bounds → ClassHead → ℕ → List MemberTree → ℕ → Checked (List MemberTree)
-members_of tokens bounds h = checked_items inside (r.member (place_of tokens) bounds.most bounds.room) (check_member bounds.room h) (early_member (place_of tokens) bounds.most h.kind (text_of tokens)) (text_of tokens)
+members_of tokens bounds h = checked_items inside (r.member (place_of tokens) bounds.most bounds.room) (check_member h) (early_member (place_of tokens) bounds.most h.kind (text_of tokens)) (text_of tokens)
 
 abbrev pub one_head : List Token → Bounds → ℕ → Checked ClassHead
 one_head tokens bounds i = checked_part check_head (early_head (place_of tokens) bounds.most (text_of tokens) i) (r.head (place_of tokens) bounds.most (text_of tokens) i)

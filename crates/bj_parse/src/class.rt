@@ -33,9 +33,7 @@ fn refused(alloc: Global, tokens: &Tokens, symbols: &[Symbol], halt: Halt) -> Re
             spot(tokens, symbols, at),
             member_code(symbols, at),
         ),
-        Halt::Stopped(Stop::Deep(at)) => {
-            fault(alloc, tokens, spot(tokens, symbols, at), FaultCode::Deep)
-        }
+        Halt::Stopped(Stop::Deep(at)) => fault(alloc, tokens, at, FaultCode::Deep),
         Halt::Unfit(misfit) => fault(alloc, tokens, misfit.at, misfit.code),
     }
 }

@@ -7,7 +7,7 @@ use std::test::Fail;
 
 /// What a file is read as.
 #[derive(Clone, Copy, PartialEq, Eq)]
-enum Read {
+pub(crate) enum Read {
     /// A class or an interface with so many members.
     Members(usize),
     /// Nothing, with its first fault and the column, in line 1, at which it stands.
@@ -39,7 +39,7 @@ fn read_of(alloc: Global, tokens: &Tokens) -> Read {
 }
 
 /// What the text of the file `A.java` is read as.
-fn read_in(alloc: Global, text: &[u8]) -> Read {
+pub(crate) fn read_in(alloc: Global, text: &[u8]) -> Read {
     if text.len() >= 100000 {
         return Read::NoMemory;
     }

@@ -3,7 +3,6 @@ ghost use Rattle.bj_grammar.specs.Given.{text_of, place_of};
 ghost use Rattle.bj_class.specs.Grammar as grammar;
 ghost use Rattle.bj_parse.specs.Checked as spec;
 ghost use Rattle.bj_parse.specs.Checked.{GivesChecked};
-ghost use Rattle.bj_parse.specs.Line.{most_nodes};
 ghost use Rattle.bj_parse.specs.Parts as parts;
 
 use crate::Halt;
@@ -136,7 +135,6 @@ fn behind_head(
     head: ClassHead,
     at: usize,
 ) -> Result<(ClassTree, usize), Halt>
-    requires { bounds.room ≡ most_nodes }
     ensures { GivesChecked result (parts.body_of tokens.now bounds class.now imports head at) }
 {
     match members_from(alloc, tokens, bounds, &head, at) {
@@ -158,7 +156,6 @@ fn behind_imports(
     imports: ImportTrees,
     at: usize,
 ) -> Result<(ClassTree, usize), Halt>
-    requires { bounds.room ≡ most_nodes }
     ensures { GivesChecked result (parts.class_behind tokens.now bounds class.now imports at) }
 {
     match checked_head(alloc, tokens, bounds, at) {
@@ -183,7 +180,6 @@ pub fn file_from(
     tokens: &[Symbol],
     bounds: Bounds,
 ) -> Result<(ClassTree, usize), Halt>
-    requires { bounds.room ≡ most_nodes }
     ensures { GivesChecked result (spec.checked_file (place_of tokens.now) bounds.most bounds.room class.now (text_of tokens.now)) }
 {
     let (imports, at) = imports_from(alloc, tokens, bounds)?;

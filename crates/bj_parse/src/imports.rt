@@ -9,7 +9,7 @@ use crate::Halt;
 use bj_class::import_at;
 use bj_core::Seq;
 use bj_expr::Bounds;
-use bj_grammar::{Stop, Symbol, Terminal, sees};
+use bj_grammar::{Stop, Symbol, Terminal, out_of_turns, sees};
 use bj_rules::import_misfit;
 use bj_tree::{ImportTree, ImportTrees};
 use std::alloc::Global;
@@ -77,7 +77,7 @@ pub fn imports_from(
         (found, at) = next_import(alloc, tokens, bounds, found, at)?;
     }
     if sees(tokens, at, Terminal::Import) {
-        return Err(Halt::Stopped(Stop::Deep(at)));
+        return Err(Halt::Stopped(out_of_turns()));
     }
     Ok((found, at))
 }

@@ -26,4 +26,6 @@ pub use outcome::Outcome;
 #[cfg(test)]
 mod class_tests;
 #[cfg(test)]
+mod deep_tests;
+#[cfg(test)]
 mod tests;

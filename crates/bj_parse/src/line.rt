@@ -1,19 +1,20 @@
-ghost use Rattle.std.specs.Prelude.{◌≡◌, IfOk, min};
+ghost use Rattle.std.specs.Prelude.{◌≡◌, IfOk};
 ghost use Rattle.bj_tree.specs.declared.line.LineTree.{LineTree};
+ghost use Rattle.bj_grammar.specs.Given.{IsDeepAt};
 ghost use Rattle.bj_grammar.specs.Reader.{Found};
 ghost use Rattle.bj_parse.specs.Line as spec;
 
 use crate::Outcome;
-use crate::depth::{HIGHEST, MOST_NODES, greater};
+use crate::depth::MOST_NODES;
 use crate::faults::{fault, spot};
 use crate::left_out::code_at;
 use crate::symbols::symbols_of;
-use bj_core::{FaultCode, NoMemory, Refusal};
+use bj_core::{FaultCode, NoMemory, Refusal, Span};
 use bj_expr::{Bounds, Part, part_at};
 use bj_grammar::{Stop, Symbol};
 use bj_lex::Tokens;
-use bj_stmt::{statements_at, stmt_height};
-use bj_tree::{ExprTree, LineTree, StmtTree, StmtTrees};
+use bj_stmt::statements_at;
+use bj_tree::{ExprTree, LineTree, StmtTrees};
 use std::alloc::Global;
 
 /// Lets a tree go. Its drop stands here alone, so that no caller's proof goes through it.
@@ -40,7 +41,7 @@ fn line_bounds(tokens: &[Symbol]) -> Bounds
 fn expression_outcome(alloc: Global, tokens: &[Symbol]) -> Result<Outcome<ExprTree>, NoMemory>
     ensures { IfOk result (λ x. spec.IsExpressionOutcome tokens.now x) }
 {
-    match part_at(alloc, tokens, line_bounds(tokens), Part::Expression, 0) {
+    match part_at(alloc, tokens, line_bounds(tokens), 0, Part::Expression) {
         Ok((tree, at)) => {
             if at < tokens.len() {
                 let_expression_go(tree);
@@ -54,17 +55,6 @@ fn expression_outcome(alloc: Global, tokens: &[Symbol]) -> Result<Outcome<ExprTr
     }
 }
 
-/// The height of the highest of some statements, or 4294967295 where it is more.
-fn highest(trees: &[StmtTree]) -> u32
-    ensures { result ≡ min (spec.line_height trees.now) 4294967295 }
-{
-    let mut most = 0;
-    for tree in trees {
-        most = greater(most, stmt_height(tree));
-    }
-    most
-}
-
 /// What statements that were read from the beginning up to a place come to.
 fn statements_read(tokens: &[Symbol], trees: StmtTrees, at: usize) -> Outcome<StmtTrees>
     requires { spec.as_statements tokens.now ≡ Found trees at }
@@ -73,10 +63,6 @@ fn statements_read(tokens: &[Symbol], trees: StmtTrees, at: usize) -> Outcome<St
     if at < tokens.len() {
         let_statements_go(trees);
         return Outcome::Stuck(at);
-    }
-    if highest(trees.as_slice()) > HIGHEST {
-        let_statements_go(trees);
-        return Outcome::Deep(0);
     }
     Outcome::Whole(trees)
 }
@@ -117,9 +103,9 @@ fn after_stuck(alloc: Global, tokens: &[Symbol], at: usize) -> Result<LineTree, 
     }
 }
 
-/// The line where an expression goes too deep at a place.
-fn after_deep(alloc: Global, tokens: &[Symbol], at: usize) -> Result<LineTree, Stop>
-    requires { spec.GoesTooDeep tokens.now }
+/// The line where a node of an expression stands too deep.
+fn after_deep(alloc: Global, tokens: &[Symbol], at: Span) -> Result<LineTree, Stop>
+    requires { IsDeepAt at (spec.as_expression tokens.now) }
     ensures found { IfOk result (λ line. spec.IsLine tokens.now line) }
     ensures only { (line : LineTree) → spec.IsLine tokens.now line → spec.StopsWith result line }
     ensures fault { spec.StopsAt result tokens.now }
@@ -159,7 +145,7 @@ fn refused(alloc: Global, tokens: &Tokens, symbols: &[Symbol], stop: Stop) -> Re
             spot(tokens, symbols, at),
             code_at(symbols, at),
         ),
-        Stop::Deep(at) => fault(alloc, tokens, spot(tokens, symbols, at), FaultCode::Deep),
+        Stop::Deep(at) => fault(alloc, tokens, at, FaultCode::Deep),
     }
 }
 
@@ -184,14 +170,14 @@ fn line_by(alloc: Global, tokens: &Tokens, symbols: &[Symbol]) -> Result<LineTre
 /// - `Wide` in its place where that token is the least number of a type and stands behind no minus.
 /// - `Profile` in its place where that token begins type arguments, a resource of a `try`, a second type of a catch, or a class, which
 ///   Java has there and the profile leaves out.
-/// - `Deep` where a node has more than 200 nodes above it.
+/// - `Deep` at a node that has more than 200 nodes above it.
 /// - `NoMemory` where there is no room for the tree.
 pub fn line_of(alloc: Global, tokens: &Tokens) -> Result<LineTree, Refusal>
     // What is read is a line by the grammar, and not too deep.
     ensures found { IfOk result (λ line. spec.IsLine tokens.now.items line) }
     // What is a line by the grammar, and not too deep, is read as that tree.
     ensures only { (line : LineTree) → spec.IsLine tokens.now.items line → spec.GivesLine result line }
-    // A fault is the first, or a node is too deep.
+    // A fault is the first, or at a node that is too deep.
     ensures fault { spec.FaultAt result tokens.now }
 {
     match symbols_of(alloc, tokens.items.as_slice()) {

@@ -43,7 +43,7 @@ fn first_unfit(owners: &[Place], modifiers: &[Modifier]) -> Option<Misfit>
     None
 }
 
-/// The misfit of the first of some modifiers that fits whatever the member is that they belong to.
+/// The misfit of the first of some modifiers that does not fit, whatever the member is that they belong to.
 fn any_unfit(kind: ClassKind, modifiers: &[Modifier]) -> Option<Misfit>
     ensures { result ≡ spec.first_unfit (spec.any_member kind) [] modifiers.now }
 {

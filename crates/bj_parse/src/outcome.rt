@@ -1,3 +1,5 @@
+use bj_core::Span;
+
 /// What reading all tokens as one thing comes to.
 #[derive(Drop)]
 pub enum Outcome<T> {
@@ -5,6 +7,6 @@ pub enum Outcome<T> {
     Whole(T),
     /// The place of the first token with which nothing goes on; the end counts as one.
     Stuck(usize),
-    /// The place of a node with too many above it.
-    Deep(usize),
+    /// Where a node stands that has too many above it.
+    Deep(Span),
 }

@@ -10,7 +10,7 @@ use std::test::Fail;
 
 /// What a line is read as.
 #[derive(Clone, Copy, PartialEq, Eq)]
-enum Answer {
+pub(crate) enum Answer {
     /// An expression.
     Expression,
     /// So many statements.
@@ -33,13 +33,18 @@ fn answer_of(alloc: Global, tokens: &Tokens) -> Answer {
 
 /// What a text is read as.
 fn answer_in(alloc: Global, text: &str) -> Answer {
-    if text.len() >= 1000 {
+    answer_for(alloc, text.as_bytes())
+}
+
+/// What a text is read as, which is given by its bytes.
+pub(crate) fn answer_for(alloc: Global, text: &[u8]) -> Answer {
+    if text.len() >= 2000 {
         return Answer::NoMemory;
     }
     let Ok(class) = Name::from_slice(alloc, b"") else {
         return Answer::NoMemory;
     };
-    match tokens(alloc, &class, text.as_bytes()) {
+    match tokens(alloc, &class, text) {
         Ok(read) => answer_of(alloc, &read),
         Err(_) => Answer::NoMemory,
     }
@@ -329,7 +334,7 @@ fn symbols_in(alloc: Global, text: &str) -> Result<Seq<Symbol>, Stop> {
 
 /// The place after a part.
 fn part_end(alloc: Global, symbols: &[Symbol], part: Part) -> Result<usize, Stop> {
-    match part_at(alloc, symbols, Bounds { most: 100, room: 4 }, part, 0) {
+    match part_at(alloc, symbols, Bounds { most: 100, room: 4 }, 0, part) {
         Ok((_, end)) => Ok(end),
         Err(stop) => Err(stop),
     }
@@ -350,6 +355,34 @@ const PARTS: &[(&str, Part, Result<usize, Stop>)] = &[
     ("{a,,}", Part::Initializer, Err(Stop::Syntax(3))),
     ("f(a,)", Part::Expression, Err(Stop::Syntax(4))),
     ("(((a)))", Part::Expression, Ok(7)),
+    (
+        "((((a))))",
+        Part::Expression,
+        Err(Stop::Deep(Span { line: 1, column: 5 })),
+    ),
+    ("-(-2147483648)", Part::Expression, Ok(5)),
+    (
+        "(-(-2147483648))",
+        Part::Expression,
+        Err(Stop::Deep(Span { line: 1, column: 5 })),
+    ),
+    ("a.b.c.d", Part::Expression, Ok(7)),
+    (
+        "a.b.c.d.e",
+        Part::Expression,
+        Err(Stop::Deep(Span { line: 1, column: 1 })),
+    ),
+    (
+        "a[b][c][d + 1][e]",
+        Part::Expression,
+        Err(Stop::Deep(Span { line: 1, column: 1 })),
+    ),
+    ("a(b, (c)).d", Part::Expression, Ok(10)),
+    (
+        "a(b, (c)).d.e",
+        Part::Expression,
+        Err(Stop::Deep(Span { line: 1, column: 7 })),
+    ),
 ];
 
 #[test]
@@ -389,7 +422,10 @@ const STATEMENTS: &[(&str, Result<usize, Stop>)] = &[
     ("if (a) int b;", Err(Stop::Syntax(4))),
     ("a + b;", Err(Stop::Syntax(1))),
     ("{{{{{;}}}}}", Ok(11)),
-    ("{{{{{{;}}}}}}", Err(Stop::Deep(6))),
+    (
+        "{{{{{{;}}}}}}",
+        Err(Stop::Deep(Span { line: 1, column: 7 })),
+    ),
 ];
 
 #[test]

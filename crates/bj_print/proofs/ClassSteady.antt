@@ -7,7 +7,7 @@ use Rattle.bj_tree.specs.declared.class.ClassTree.{ClassTree}
 use Rattle.bj_tree.specs.declared.member.MemberTree.{MemberTree}
 use Rattle.bj_tree.specs.declared.member.MemberTree.TheVariants as m
 use Rattle.bj_tree.specs.Size.{most}
-use Rattle.bj_class.specs.Deep.{DeepBody, DeepMember, DeepMembers}
+use Rattle.bj_class.specs.Deep.{HighBody, HighMember, HighMembers}
 use Rattle.bj_rules.specs.Rules.{import_misfit, head_misfit, member_misfit}
 use Rattle.bj_parse.specs.Class.{ImportsFit, MembersFit, Fits}
 use Rattle.bj_print.specs.Same.{unplaced_stmt, unplaced_modifier, unplaced_annotation, unplaced_import, unplaced_member, unplaced_class, SameClass}
@@ -51,37 +51,37 @@ same_fits b a same f = fits_back b (subst Fits (sym same) (fits_out a f))
 
 -- ---- how deep
 
-body_out : (room : ℕ) (x : Option StmtTree) → DeepBody room x → DeepBody room (option_map unplaced_stmt x)
+body_out : (room : ℕ) (x : Option StmtTree) → HighBody room x → HighBody room (option_map unplaced_stmt x)
 body_out room None d = d
 body_out room (Some x) d = subst (λ (n : ℕ). room < n) (sym (height_steady x)) d
 
-body_back : (room : ℕ) (x : Option StmtTree) → DeepBody room (option_map unplaced_stmt x) → DeepBody room x
+body_back : (room : ℕ) (x : Option StmtTree) → HighBody room (option_map unplaced_stmt x) → HighBody room x
 body_back room None d = d
 body_back room (Some x) d = subst (λ (n : ℕ). room < n) (height_steady x) d
 
-member_out : (room : ℕ) (x : MemberTree) → DeepMember room x → DeepMember room (unplaced_member x)
+member_out : (room : ℕ) (x : MemberTree) → HighMember room x → HighMember room (unplaced_member x)
 member_out room (m.Field f) d = subst (λ (ns : List ℕ). suc room < most ns) (sym (of_variables f.variables)) d
 member_out room (m.Method f) d = body_out room f.body d
 member_out room (m.Constructor f) d = subst (λ (n : ℕ). room < n) (sym (height_steady f.body)) d
 member_out room (m.Initializer f) d = subst (λ (n : ℕ). room < n) (sym (height_steady f.body)) d
 member_out room (m.Empty at) d = d
 
-member_back : (room : ℕ) (x : MemberTree) → DeepMember room (unplaced_member x) → DeepMember room x
+member_back : (room : ℕ) (x : MemberTree) → HighMember room (unplaced_member x) → HighMember room x
 member_back room (m.Field f) d = subst (λ (ns : List ℕ). suc room < most ns) (of_variables f.variables) d
 member_back room (m.Method f) d = body_back room f.body d
 member_back room (m.Constructor f) d = subst (λ (n : ℕ). room < n) (height_steady f.body) d
 member_back room (m.Initializer f) d = subst (λ (n : ℕ). room < n) (height_steady f.body) d
 member_back room (m.Empty at) d = d
 
-deep_out : (room : ℕ) (xs : List MemberTree) → DeepMembers room xs → DeepMembers room (map unplaced_member xs)
+deep_out : (room : ℕ) (xs : List MemberTree) → HighMembers room xs → HighMembers room (map unplaced_member xs)
 deep_out room [] d = d
 deep_out room (x ∷ xs) (inl d) = inl (member_out room x d)
 deep_out room (x ∷ xs) (inr d) = inr (deep_out room xs d)
 
-deep_back : (room : ℕ) (xs : List MemberTree) → DeepMembers room (map unplaced_member xs) → DeepMembers room xs
+deep_back : (room : ℕ) (xs : List MemberTree) → HighMembers room (map unplaced_member xs) → HighMembers room xs
 deep_back room [] d = d
 deep_back room (x ∷ xs) (inl d) = inl (member_back room x d)
 deep_back room (x ∷ xs) (inr d) = inr (deep_back room xs d)
 
-pub same_deep : (room : ℕ) (b a : ClassTree) → SameClass b a → DeepMembers room b.members → DeepMembers room a.members
-same_deep room b a same d = deep_back room a.members (subst (λ (c : ClassTree). DeepMembers room c.members) same (deep_out room b.members d))
+pub same_deep : (room : ℕ) (b a : ClassTree) → SameClass b a → HighMembers room b.members → HighMembers room a.members
+same_deep room b a same d = deep_back room a.members (subst (λ (c : ClassTree). HighMembers room c.members) same (deep_out room b.members d))

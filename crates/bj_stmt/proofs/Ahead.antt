@@ -14,7 +14,7 @@ use Rattle.bj_grammar.specs.declared.terminal.Terminal.TheVariants as t
 use Rattle.bj_grammar.specs.Terminal.{terminal, same_terminal, among}
 use Rattle.bj_grammar.specs.Reader.{Text, Answer, Found, Wrong, Over, Parser, and_then, ◌>>=◌, pure, over, here, operator, word, sign}
 use Rattle.bj_grammar.proofs.Terminals.{is_token}
-use Rattle.bj_grammar.proofs.Laws.{Rel, Shape, Completes, Laws, Same, Word, stop, pure_laws, word_shape, kind_is, is_kind, reaches}
+use Rattle.bj_grammar.proofs.Laws.{Rel, Shape, Completes, Laws, Same, Word, reached_stop, stop, pure_laws, word_shape, kind_is, is_kind, reaches}
 use Rattle.bj_expr.specs.declared.part.Part.TheVariants as part
 use Rattle.bj_expr.specs.Grammar as ge
 use Rattle.bj_expr.specs.Grammar.{primitives, TypeAt, Dims, Expression, Unary}
@@ -39,7 +39,7 @@ Tokens [] = Unit {0}
 Tokens (k ∷ ks) = (is_token k ≡ true) × Tokens ks
 
 row_shape : (ks : List Terminal) → Tokens ks → Shape (Row ks)
-row_shape [] real = (pure_laws 0 0 (λ (a : ℕ) (k : Terminal). Unit {0}) (λ (a : ℕ). Unit {0})).shape
+row_shape [] real = (pure_laws 0 0 (λ (a : ℕ) (k : Terminal). Unit {0}) (λ (at : Span) (a : ℕ). Unit {0})).shape
 row_shape (k ∷ ks) real = word_shape k real.0 (λ _. Row ks) (λ _. row_shape ks real.1)
 
 -- the text up to a place, and then these terminals
@@ -58,7 +58,11 @@ goes_on s i ks real =
 pub stop_then : {A B : Type 0} (x : Answer A) (f : A → ℕ → Answer B) → ((a : A) (m : ℕ) → m ≤ stop (f a m)) → stop x ≤ stop (and_then x f)
 stop_then (Found a m) f h = h a m
 stop_then (Wrong k) f h = le_refl k
-stop_then (Over k) f h = le_refl k
+stop_then (Over k at) f h = omega arith
+
+-- a rule looks at least as far as the place that it begins at
+pub forth : {A : Type 0} {n : ℕ} {p : Parser A} {D : Rel A} {E : A → Terminal → Type 0} {T : Span → A → Type 0} → Laws n p D E T → (s : Text) (i : ℕ) → i ≤ stop (p s i)
+forth {p} u s i = let h = u.onward s i in let k = reached_stop (p s i) in omega arith
 
 pub stop_word : {A : Type 0} (k : Terminal) (q : List ℕ → Parser A) (s : Text) (i n : ℕ) → same_terminal (terminal (s i)) k ≡ true → n ≤ stop (q (s i).text s (suc i)) → n ≤ stop (word k q s i)
 stop_word k q s i n e h = subst (λ (b : Bool). n ≤ stop (cond b (q (s i).text s (suc i)) (Wrong i))) (sym e) h
@@ -204,7 +208,7 @@ assign_is x e = ap (among ge.assigns) e
 
 module _ (place : ℕ → Span) (most : ℕ) (given : Given place most) (s : Text) (i : ℕ) (is_word : same_terminal (terminal (s i)) t.Word ≡ true) where
   -- a statement that is an expression looks behind a name at its front
-  pub evaluation_past : (q : Parser StmtTree) (T : StmtTree → Type 0) → Laws most q (λ s a i j. Evaluation place s a i j) (λ _ k. among list_ends k ≡ true) T → i < stop (q s i)
+  pub evaluation_past : (q : Parser StmtTree) (T : Span → StmtTree → Type 0) → Laws most q (λ s a i j. Evaluation place s a i j) (λ _ k. among list_ends k ≡ true) T → i < stop (q s i)
   evaluation_past q T v =
       let c = goes_on s (suc i) (t.LeftParen ∷ t.RightParen ∷ t.Semicolon ∷ []) (refl, (refl, (refl, tt))) in
       let here : c.0 i ≡ s i = c.1 i (omega arith) in
@@ -215,7 +219,7 @@ module _ (place : ℕ → Span) (most : ℕ) (given : Given place most) (s : Tex
       (in_list (terminal (c.0 (suc (suc (suc i))))) t.Semicolon c.2.1.rest.rest.kind sign_facts.0)
       (omega arith) (omega arith)
 
-  pub evaluation_past_bracket : same_terminal (terminal (s (suc i))) t.LeftBracket ≡ true → (q : Parser StmtTree) (T : StmtTree → Type 0) → Laws most q (λ s a i j. Evaluation place s a i j) (λ _ k. among list_ends k ≡ true) T → suc i < stop (q s i)
+  pub evaluation_past_bracket : same_terminal (terminal (s (suc i))) t.LeftBracket ≡ true → (q : Parser StmtTree) (T : Span → StmtTree → Type 0) → Laws most q (λ s a i j. Evaluation place s a i j) (λ _ k. among list_ends k ≡ true) T → suc i < stop (q s i)
   evaluation_past_bracket bracket q T v =
       let c = goes_on s (suc (suc i)) (t.Word ∷ t.RightBracket ∷ t.Assign ∷ t.Word ∷ t.Semicolon ∷ []) (refl, (refl, (refl, (refl, (refl, tt))))) in
       let here : c.0 i ≡ s i = c.1 i (omega arith) in

@@ -1,9 +1,8 @@
 -- What the laws of statements ask of the readers of types and expressions.
-use Rattle.std.proofs.Common.{◌≡◌, ℕ, ◌<◌, ◌≤◌, Bool, true, false, List, [], ◌∷◌, ◌++◌}
+use Rattle.std.proofs.Common.{◌≡◌, ℕ, suc, ◌<◌, ◌≤◌, Bool, true, false, List, [], ◌∷◌, ◌++◌}
 use Rattle.bj_core.specs.declared.types.Span.{Span}
 use Rattle.bj_tree.specs.declared.types.TypeTree.{TypeTree}
 use Rattle.bj_tree.specs.declared.expr.ExprTree.{ExprTree}
-use Rattle.bj_tree.specs.Size.{height_of}
 use Rattle.bj_grammar.specs.declared.terminal.Terminal.{Terminal}
 use Rattle.bj_grammar.specs.declared.terminal.Terminal.TheVariants as t
 use Rattle.bj_grammar.specs.Terminal.{terminal, same_terminal, among}
@@ -12,9 +11,10 @@ use Rattle.bj_grammar.proofs.Laws.{Laws}
 use Rattle.bj_expr.specs.declared.part.Part.{Part}
 use Rattle.bj_expr.specs.declared.part.Part.TheVariants as part
 use Rattle.bj_expr.specs.Grammar.{assigns, TypeAt, Dims}
-use Rattle.bj_expr.specs.Reading.{within, type_at, dims}
+use Rattle.bj_expr.specs.Reading.{type_at, dims}
+use Rattle.bj_expr.specs.Reading as expressions
+use Rattle.bj_expr.specs.Nodes.{HasNode}
 use Rattle.bj_expr.specs.Within.{Stands}
-use Rattle.bj_stmt.specs.Reading.{bounds_of}
 
 -- the tokens that end an expression in a statement
 abbrev pub enders : List Terminal
@@ -32,8 +32,8 @@ beginners x = expression_words
 abbrev pub AfterType : {A : Type 0} → A → Terminal → Type 0
 AfterType a x = same_terminal x t.LeftBracket ≡ false
 
-abbrev pub Never : {A : Type 0} → A → Type 0
-Never a = ⊥
+abbrev pub Never : {A : Type 0} → Span → A → Type 0
+Never at a = ⊥
 
 pub record Given (place : ℕ → Span) (most : ℕ) : Type 1 where
   pub part_forward : (x : Part) (s : Text) (a : ExprTree) (i j : ℕ) → Stands x place s a i j → i < j
@@ -44,7 +44,7 @@ pub record Given (place : ℕ → Span) (most : ℕ) : Type 1 where
   pub dims_frame : (s u : Text) (a i j : ℕ) → ((z : ℕ) → z < j → u z ≡ s z) → Dims s a i j → Dims u a i j
   -- what may follow a part
   pub After : Part → ExprTree → Terminal → Type 0
-  pub part_laws : (room : ℕ) (x : Part) → Laws most (within place (bounds_of most room) x) (λ s a i j. Stands x place s a i j) (After x) (λ a. room < height_of a)
+  pub part_laws : (room : ℕ) (x : Part) → Laws most (expressions.nested place most room x) (λ s a i j. Stands x place s a i j) (After x) (HasNode (suc room))
   pub ends : (x : Part) (a : ExprTree) (k : Terminal) → among enders k ≡ true → After x a k
   pub before_assign : (a : ExprTree) (k : Terminal) → among assigns k ≡ true → After part.Unary a k
   pub begins : (x : Part) (s : Text) (a : ExprTree) (i j : ℕ) → Stands x place s a i j → among (beginners x) (terminal (s i)) ≡ true

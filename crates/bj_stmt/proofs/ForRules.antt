@@ -10,7 +10,6 @@ use Rattle.bj_tree.specs.declared.expr.ExprTree.{ExprTree}
 use Rattle.bj_tree.specs.declared.stmt.VariableTree.{VariableTree}
 use Rattle.bj_tree.specs.declared.stmt.StmtTree.{StmtTree}
 use Rattle.bj_tree.specs.declared.stmt.StmtTree.TheVariants as stmt
-use Rattle.bj_tree.specs.Size.{height_of}
 use Rattle.bj_grammar.specs.declared.terminal.Terminal.{Terminal}
 use Rattle.bj_grammar.specs.declared.terminal.Terminal.TheVariants as t
 use Rattle.bj_grammar.specs.Terminal.{terminal, same_terminal, among}
@@ -26,26 +25,26 @@ use Rattle.bj_stmt.specs.Grammar as g
 use Rattle.bj_stmt.specs.Grammar.{jump, jumps, dangles, MaybeFinal, MaybeInit, MaybeExpression, MaybeExpressions, MaybeName, Variables, Declaration, Evaluation, Evaluations, ForInit, Statement, Block, BlockStatements, BlockStatement, Members, Member, Label, Catches, Catch, ConstructorCall, ConstructorBody}
 use Rattle.bj_stmt.specs.Reading as r
 use Rattle.bj_stmt.specs.Reading.{declares, is_labelled, is_class_lock, is_constructor_call, constructors, inside, is_empty, branch_words, loop_words, leave_words, guard_words}
-use Rattle.bj_stmt.specs.Heights.{variable_height, stmt_height}
+use Rattle.bj_stmt.specs.Nodes.{variable_nodes, stmt_nodes_at, StmtHasNode, SomeStmtHasNode, SomeVariableHasNode}
 use Rattle.bj_stmt.proofs.Expressions.{Given, expression_words, enders, AfterType, Never}
+use Rattle.bj_stmt.proofs.StmtNodeForms.{local_root}
 use Rattle.bj_stmt.proofs.StmtTall as tall
-use Rattle.bj_stmt.proofs.StmtTall.{stmts_height, variables_height}
 use Rattle.bj_stmt.proofs.StmtShape.{block_forward, block_statement_forward, member_forward, label_forward, catch_forward, evaluation_forward}
 use Rattle.bj_stmt.proofs.Leftmost.{each, is_not, none_of, or_none, or_split, and_first, Second, Next, followed, expression_leftmost, paren_second, semicolon_second, comma_second}
 use Rattle.bj_stmt.proofs.Begins as Begins
 use Rattle.bj_stmt.proofs.Begins.{no_follow, member_words, First, member_first}
 use Rattle.bj_stmt.proofs.Starts.{member_begins, block_statement_begins, statement_begins, evaluation_begins, block_begins, block_member_word, statement_block_word, is_inside, dims_two, type_declares, final_declares, evaluation_declares, evaluation_next}
-use Rattle.bj_stmt.proofs.Ahead.{stop_then, stop_word, declares_depends, labelled_depends, class_depends, constructor_depends, type_past, type_past_bracket, evaluation_past, evaluation_past_bracket, value_past, value_past_dot, goes_on}
+use Rattle.bj_stmt.proofs.Ahead.{stop_then, forth, stop_word, declares_depends, labelled_depends, class_depends, constructor_depends, type_past, type_past_bracket, evaluation_past, evaluation_past_bracket, value_past, value_past_dot, goes_on}
 use Rattle.bj_stmt.proofs.Small.{same_after, pick_laws, list_facts, CommaVariable, VariablesBehind, variables_behind_laws, to_named, from_named, declaration_laws, evaluation_laws, constructor_call_laws, label_laws, LabelRel, case_laws, default_laws, to_label, from_label, Any, Before, InList, list_ends, in_list, in_enders, sign_facts, final_laws, type_no_final, NameAt, name_laws, maybe_name_laws, ExprRel, value_laws, value_ends, maybe_value_laws, all_values_laws}
 use Rattle.bj_stmt.proofs.Rules.{StandsAs, AfterStatement, AfterPart, handlers, stop_ahead, stop_found}
 
 module _ (place : ℕ → Span) (most : ℕ) (given : Given place most) (room : ℕ) (nested : StmtPart → Parser StmtTree)
-    (u : (x : StmtPart) → Laws most (nested x) (StandsAs x place) (AfterPart x) (λ a. room < stmt_height a)) where
-  abbrev TallStmt : StmtTree → Type 0
-  TallStmt a = suc room < stmt_height a
+    (u : (x : StmtPart) → Laws most (nested x) (StandsAs x place) (AfterPart x) (StmtHasNode (suc room))) where
+  abbrev TallStmt : Span → StmtTree → Type 0
+  TallStmt = StmtHasNode (suc (suc room))
 
-  abbrev TallList : List StmtTree → Type 0
-  TallList a = room < stmts_height a
+  abbrev TallList : Span → List StmtTree → Type 0
+  TallList = SomeStmtHasNode (suc room)
 
   abbrev BodyRel : Rel StmtTree
   BodyRel = λ s a i j. Statement place s a i j
@@ -60,9 +59,9 @@ module _ (place : ℕ → Span) (most : ℕ) (given : Given place most) (room : 
     no_handler = subst (λ (n : ℕ). among handlers (terminal (s n)) ≡ false) d.at last.no_handler;
   }
 
-  ended_laws : (f : StmtTree → StmtTree) → ((b : StmtTree) → dangles (f b) ≡ dangles b) → ((b a : StmtTree) → a ≡ f b → room < stmt_height b → TallStmt a)
+  ended_laws : (f : StmtTree → StmtTree) → ((b : StmtTree) → dangles (f b) ≡ dangles b) → ((b a : StmtTree) → a ≡ f b → (at : Span) → StmtHasNode (suc room) at b → TallStmt at a)
       → Laws most (nested p.Statement >>= λ b. pure (f b)) (Then BodyRel (λ b. Same (f b))) AfterStatement TallStmt
-  ended_laws f same high = seq (u p.Statement) (λ b. pure_laws most (f b) AfterStatement TallStmt) (λ s b m a j d last. handed f same s b a m j d last) (λ s b m a j d h. high b a d.tree h)
+  ended_laws f same high = seq (u p.Statement) (λ b. pure_laws most (f b) AfterStatement TallStmt) (λ s b m a j d last. handed f same s b a m j d last) (λ s b m a j d at h. high b a d.tree at h)
 
   -- ---- behind what a `for` begins with
 
@@ -79,11 +78,11 @@ module _ (place : ℕ → Span) (most : ℕ) (given : Given place most) (room : 
   unfolding r.for_tail
   tail_laws i inits = tok t.Semicolon refl (λ _. seq (maybe_value_laws place most given room)
       (λ x. tok t.Semicolon refl (λ _. seq (all_values_laws place most given room)
-      (λ us. tok t.RightParen refl (λ _. ended_laws (stmt.For (place i) inits x us) (λ b. Begins.for_dangles (place i) inits x us b) (λ b a e h. tall.tall_for_body room (place i) inits x us b a e h)))
-      (λ s us m a j d last. d.kind) (λ s us m a j d h. tall.tall_for_update room (place i) inits x us d.rest.part a d.rest.rest.tree h)))
-      (λ s x m a j d last. d.kind) (λ s x m a j d h. tall.tall_for_test room (place i) inits x d.rest.part d.rest.rest.rest.part a d.rest.rest.rest.rest.tree h))
+      (λ us. tok t.RightParen refl (λ _. ended_laws (stmt.For (place i) inits x us) (λ b. Begins.for_dangles (place i) inits x us b) (λ b a e at h. tall.tall_for_body room (place i) inits x us b a e h)))
+      (λ s us m a j d last. d.kind) (λ s us m a j d at h. tall.tall_for_update room (place i) inits x us d.rest.part a d.rest.rest.tree h)))
+      (λ s x m a j d last. d.kind) (λ s x m a j d at h. tall.tall_for_test room (place i) inits x d.rest.part d.rest.rest.rest.part a d.rest.rest.rest.rest.tree h))
 
-  tail_high : (i : ℕ) (inits : List StmtTree) (n : ℕ) (s : Text) (a : StmtTree) (m j : ℕ) → ForTail i inits s a m j → n < stmts_height inits → suc n < stmt_height a
+  tail_high : {p : Span} (i : ℕ) (inits : List StmtTree) (n : ℕ) (s : Text) (a : StmtTree) (m j : ℕ) → ForTail i inits s a m j → SomeStmtHasNode (suc n) p inits → StmtHasNode (suc (suc n)) p a
   tail_high i inits n s a m j d h = let w = d.rest.rest.rest in tall.tall_for_init n (place i) inits d.rest.part w.part w.rest.rest.part a w.rest.rest.rest.tree h
 
   to_tail : (i k : ℕ) (inits : List StmtTree) (s : Text) (a : StmtTree) (j : ℕ) → terminal (s i) ≡ t.For → terminal (s (suc i)) ≡ t.LeftParen → ForInit place s inits (suc (suc i)) k → ForTail i inits s a k j → Statement place s a i j
@@ -101,25 +100,32 @@ module _ (place : ℕ → Span) (most : ℕ) (given : Given place most) (room : 
   each_laws : (i : ℕ) (f : Bool) (ty : TypeTree) (name : NamedPlace) → Laws most (r.for_each place most room nested i f ty name) (EachRel i f ty name) AfterStatement TallStmt
   unfolding r.for_each
   each_laws i f ty name = tok t.Colon refl (λ _. seq (value_laws place most given room)
-      (λ x. tok t.RightParen refl (λ _. ended_laws (stmt.ForEach (place i) f ty name x) (λ b. Begins.foreach_dangles (place i) f ty name x b) (λ b a e h. tall.tall_foreach_body room (place i) f ty name x b a e h)))
+      (λ x. tok t.RightParen refl (λ _. ended_laws (stmt.ForEach (place i) f ty name x) (λ b. Begins.foreach_dangles (place i) f ty name x b) (λ b a e at h. tall.tall_foreach_body room (place i) f ty name x b a e h)))
       (λ s x m a j d last. value_ends place most given room x _ t.RightParen d.kind sign_facts.2)
-      (λ s x m a j d h. tall.tall_foreach_ranges room (place i) f ty name x d.rest.part a d.rest.rest.tree h))
+      (λ s x m a j d at h. tall.tall_foreach_ranges room (place i) f ty name x d.rest.part a d.rest.rest.tree h))
 
   -- ---- with variables
 
   abbrev VarsRel : ℕ → ℕ → Bool → TypeTree → NamedPlace → ℕ → Rel StmtTree
   VarsRel i d f ty name m = Then (VariablesBehind place most given room m name.name) (λ vs. ForTail i (stmt.Local (place d) f ty vs ∷ []))
 
-  behind_some : (m : ℕ) (v : List ℕ) (s : Text) (a : List VariableTree) (i j : ℕ) → VariablesBehind place most given room m v s a i j → 0 < variables_height a
-  behind_some m v s a i j d = steps_fold (CommaVariable place most given room) (λ s a i j. 0 < variables_height a) s i
-      (λ b c k l h o. tall.tall_before variable_height 0 b o.rest.part c o.rest.rest.tree h)
-      d.part a d.at j (tall.tall_one variable_height 0 d.first.part d.part d.first.rest.tree (omega arith)) d.rest
+  -- the first of the variables is a node at its name
+  behind_front : (m : ℕ) (v : List ℕ) (s : Text) (a : List VariableTree) (i j : ℕ) → VariablesBehind place most given room m v s a i j → SomeVariableHasNode 1 (place m) a
+  behind_front m v s a i j d = steps_fold (CommaVariable place most given room) (λ s a i j. SomeVariableHasNode 1 (place m) a) s i
+      (λ b c k l h o. tall.tall_before variable_nodes 0 b o.rest.part c o.rest.rest.tree h)
+      d.part a d.at j (tall.tall_one variable_nodes 0 d.first.part d.part d.first.rest.tree (tall.variable_root (place m) d.first.part (ap (λ (x : VariableTree). x.at) d.first.first.rest.rest.tree))) d.rest
 
-  one_local : (n : ℕ) (d : ℕ) (f : Bool) (ty : TypeTree) (vs : List VariableTree) → n < variables_height vs → suc n < stmts_height (stmt.Local (place d) f ty vs ∷ [])
-  one_local n d f ty vs h = tall.tall_one stmt_height (suc n) (stmt.Local (place d) f ty vs) _ refl (tall.tall_local_variables n (place d) f ty vs _ refl h)
+  one_local : {p : Span} (n : ℕ) (d : ℕ) (f : Bool) (ty : TypeTree) (vs : List VariableTree) → SomeVariableHasNode (suc n) p vs → SomeStmtHasNode (suc (suc n)) p (stmt.Local (place d) f ty vs ∷ [])
+  one_local n d f ty vs h = tall.tall_one stmt_nodes_at (suc n) (stmt.Local (place d) f ty vs) _ refl (tall.tall_local_variables n (place d) f ty vs _ refl h)
 
-  vars_high : (i d : ℕ) (f : Bool) (ty : TypeTree) (name : NamedPlace) (m : ℕ) (s : Text) (a : StmtTree) (k j : ℕ) → VarsRel i d f ty name m s a k j → 2 < stmt_height a
-  vars_high i d f ty name m s a k j e = tail_high i (stmt.Local (place d) f ty e.part ∷ []) 1 s a e.at j e.rest (one_local 0 d f ty e.part (behind_some m name.name s e.part k e.at e.first))
+  -- the declaration is a node below the `for`
+  local_high : (i d : ℕ) (f : Bool) (ty : TypeTree) (name : NamedPlace) (m : ℕ) (s : Text) (a : StmtTree) (k j : ℕ) → VarsRel i d f ty name m s a k j → StmtHasNode 2 (place d) a
+  local_high i d f ty name m s a k j e = tail_high i (stmt.Local (place d) f ty e.part ∷ []) 0 s a e.at j e.rest
+      (tall.tall_one stmt_nodes_at 0 (stmt.Local (place d) f ty e.part) _ refl (tall.rooted (place d) (stmt.Local (place d) f ty e.part) _ refl (local_root (place d) f ty e.part)))
+
+  -- and its first variable one below the declaration
+  vars_high : (i d : ℕ) (f : Bool) (ty : TypeTree) (name : NamedPlace) (m : ℕ) (s : Text) (a : StmtTree) (k j : ℕ) → VarsRel i d f ty name m s a k j → StmtHasNode 3 (place m) a
+  vars_high i d f ty name m s a k j e = tail_high i (stmt.Local (place d) f ty e.part ∷ []) 1 s a e.at j e.rest (one_local 0 d f ty e.part (behind_front m name.name s e.part k e.at e.first))
 
   vars_shape : (i d : ℕ) (f : Bool) (ty : TypeTree) (name : NamedPlace) (m : ℕ) → Shape (VarsRel i d f ty name m)
   vars_shape i d f ty name m = then_shape (VariablesBehind place most given room m name.name) (λ vs. ForTail i (stmt.Local (place d) f ty vs ∷ []))
@@ -127,12 +133,14 @@ module _ (place : ℕ → Span) (most : ℕ) (given : Given place most) (room : 
 
   vars_laws_at : (k : ℕ) → k ≡ room → (i d : ℕ) (f : Bool) (ty : TypeTree) (name : NamedPlace) (m : ℕ) → Laws most (r.for_variables place most k nested i d f ty name m) (VarsRel i d f ty name m) AfterStatement TallStmt
   unfolding r.for_variables
-  vars_laws_at zero e i d f ty name m = over_laws most (VarsRel i d f ty name m) AfterStatement TallStmt (vars_shape i d f ty name m) (λ s a l j x. inl (let h = vars_high i d f ty name m s a l j x in omega arith))
-  vars_laws_at (suc zero) e i d f ty name m = over_laws most (VarsRel i d f ty name m) AfterStatement TallStmt (vars_shape i d f ty name m) (λ s a l j x. inl (let h = vars_high i d f ty name m s a l j x in omega arith))
+  vars_laws_at zero e i d f ty name m = over_laws most (λ _. place d) (VarsRel i d f ty name m) AfterStatement TallStmt (vars_shape i d f ty name m)
+      (λ s a l j x. inl (subst (λ (n : ℕ). StmtHasNode (suc (suc n)) (place d) a) e (local_high i d f ty name m s a l j x)))
+  vars_laws_at (suc zero) e i d f ty name m = over_laws most (λ _. place m) (VarsRel i d f ty name m) AfterStatement TallStmt (vars_shape i d f ty name m)
+      (λ s a l j x. inl (subst (λ (n : ℕ). StmtHasNode (suc (suc n)) (place m) a) e (vars_high i d f ty name m s a l j x)))
   vars_laws_at (suc (suc k)) e i d f ty name m = seq (variables_behind_laws place most given k m name.name)
       (λ vs. subst (λ (z : ℕ). Laws most (r.for_tail place most z nested i (stmt.Local (place d) f ty vs ∷ [])) (ForTail i (stmt.Local (place d) f ty vs ∷ [])) AfterStatement TallStmt) (sym e) (tail_laws i (stmt.Local (place d) f ty vs ∷ [])))
       (λ s vs l a j x last. x.kind)
-      (λ s vs l a j x h. let w = tail_high i (stmt.Local (place d) f ty vs ∷ []) (suc (suc k)) s a l j x (one_local (suc k) d f ty vs h) in omega arith)
+      (λ s vs l a j x at h. subst (λ (n : ℕ). StmtHasNode (suc (suc n)) at a) e (tail_high i (stmt.Local (place d) f ty vs ∷ []) (suc (suc k)) s a l j x (one_local (suc k) d f ty vs h)))
 
   -- behind the name stands no colon
   dims_colon : (s : Text) {n i j : ℕ} → Dims s n i j → same_terminal (terminal (s j)) t.Colon ≡ false → same_terminal (terminal (s i)) t.Colon ≡ false
@@ -175,7 +183,7 @@ module _ (place : ℕ → Span) (most : ℕ) (given : Given place most) (room : 
   unfolding r.for_named
   named_laws i d f ty = start {D = NamedRel i d f ty} (λ m. seq (name_laws place most Any Never)
       (λ x. alt (is t.Colon) (each_laws i f ty x) (vars_laws_at room refl i d f ty x m) (λ s a k j e last. is_kind _ _ e.kind) (λ s a k j e last. vars_colon i d f ty x m s a k j e))
-      (λ s x k a j e last. tt) (λ s x k a j e h. absurd h))
+      (λ s x k a j e last. tt) (λ s x k a j e at h. absurd h))
 
   abbrev DeclaredRel : ℕ → ℕ → Rel StmtTree
   DeclaredRel i d = Then (λ s a i j. MaybeFinal s a i j) (λ f. Then (λ s a i j. TypeAt place s a i j) (λ ty s a m j. NamedRel i d f ty m s a m j))
@@ -185,11 +193,11 @@ module _ (place : ℕ → Span) (most : ℕ) (given : Given place most) (room : 
   name_no_bracket s x m j d = is_not (terminal (s m)) t.Word t.LeftBracket d.kind refl
 
   typed_laws : (i d : ℕ) (f : Bool) → Laws most (type_at place most >>= λ ty. r.for_named place most room nested i d f ty) (Then (λ s a i j. TypeAt place s a i j) (λ ty s a m j. NamedRel i d f ty m s a m j)) AfterStatement TallStmt
-  typed_laws i d f = seq given.type_laws (λ ty. named_laws i d f ty) (λ s ty m a j e last. name_no_bracket s e.part m e.at e.first) (λ s ty m a j e h. absurd h)
+  typed_laws i d f = seq given.type_laws (λ ty. named_laws i d f ty) (λ s ty m a j e last. name_no_bracket s e.part m e.at e.first) (λ s ty m a j e at h. absurd h)
 
   declared_laws : (i : ℕ) → Laws most (r.for_declared place most room nested i) (λ s a d j. DeclaredRel i d s a d j) AfterStatement TallStmt
   unfolding r.for_declared
-  declared_laws i = start {D = DeclaredRel i} (λ d. seq (final_laws most) (λ f. typed_laws i d f) (λ s f m a j e last. type_no_final place s e.first) (λ s f m a j e h. absurd h))
+  declared_laws i = start {D = DeclaredRel i} (λ d. seq (final_laws most) (λ f. typed_laws i d f) (λ s f m a j e last. type_no_final place s e.first) (λ s f m a j e at h. absurd h))
 
   -- ---- with expressions
 
@@ -218,13 +226,13 @@ module _ (place : ℕ → Span) (most : ℕ) (given : Given place most) (room : 
   evaluations_laws = renamed EvaluationsRel (Before t.Semicolon)
       (rep {Q = Comma} {E = InList} (is t.Comma)
       (seq (u p.Evaluation) (λ x. pure_laws most (x ∷ []) InList TallList) (λ s x m b j d last. same_after (λ y. among list_ends y ≡ true) s (x ∷ []) b m j d last)
-      (λ s x m b j d h. tall.tall_one stmt_height room x b d.tree h))
+      (λ s x m b j d at h. tall.tall_one stmt_nodes_at room x b d.tree h))
       (λ b. tok t.Comma refl (λ _. seq (u p.Evaluation) (λ x. pure_laws most (b ++ x ∷ []) InList TallList)
-      (λ s x m c j d last. same_after (λ y. among list_ends y ≡ true) s (b ++ x ∷ []) c m j d last) (λ s x m c j d h. tall.tall_end stmt_height room b x c d.tree h)))
+      (λ s x m c j d last. same_after (λ y. among list_ends y ≡ true) s (b ++ x ∷ []) c m j d last) (λ s x m c j d at h. tall.tall_end stmt_nodes_at room b x c d.tree h)))
       (λ s x a i j d. is_kind _ _ d.kind)
       (λ s x a i j d. let h = evaluation_forward place most given s d.rest.first in let e = d.rest.rest.at in omega arith)
       (λ a x o. in_list x t.Comma (kind_is x t.Comma o) sign_facts.1)
-      (λ s x a i j d h. tall.tall_before stmt_height room x d.rest.part a d.rest.rest.tree h))
+      (λ s x a i j d at h. tall.tall_before stmt_nodes_at room x d.rest.part a d.rest.rest.tree h))
       to_evaluations (λ s a i j d. from_evaluations s d) (λ a x e. (in_list x t.Semicolon e sign_facts.0, is_not x t.Semicolon t.Comma e sign_facts.6))
 
   abbrev EvaluatedRel : ℕ → Rel StmtTree
@@ -241,7 +249,7 @@ module _ (place : ℕ → Span) (most : ℕ) (given : Given place most) (room : 
 
   evaluated_laws : (i : ℕ) → Laws most (r.for_evaluated place most room nested i) (EvaluatedRel i) AfterStatement TallStmt
   unfolding r.for_evaluated
-  evaluated_laws i = alt (is t.Semicolon) (tail_laws i []) (seq evaluations_laws (tail_laws i) (λ s es m a j d last. d.kind) (λ s es m a j d h. tail_high i es room s a m j d h))
+  evaluated_laws i = alt (is t.Semicolon) (tail_laws i []) (seq evaluations_laws (tail_laws i) (λ s es m a j d last. d.kind) (λ s es m a j d at h. tail_high i es room s a m j d h))
       (λ s a m j d last. is_kind _ _ d.kind)
       (λ s a m j d last. let w = first_evaluation s d.first (semicolon_second (terminal (s d.at)) d.rest.kind) in words_no_semicolon (terminal (s m)) (evaluation_begins place most given s w.2))
 
@@ -278,30 +286,30 @@ module _ (place : ℕ → Span) (most : ℕ) (given : Given place most) (room : 
   declared_stop : (i : ℕ) (s : Text) (d n : ℕ) → same_terminal (terminal (s d)) t.Word ≡ true → n ≤ stop (type_at place most s d) → n ≤ stop (r.for_declared place most room nested i s d)
   unfolding r.for_declared
   declared_stop i s d n w h = stop_found (r.maybe_final s d) (λ f m. (type_at place most >>= λ ty. r.for_named place most room nested i d f ty) s m) false d n (final_none s d (word_no_final (terminal (s d)) w))
-      (let k = stop_then (type_at place most s d) (λ ty m. r.for_named place most room nested i d false ty s m) (λ ty m. (named_laws i d false ty).onward s m) in omega arith)
+      (let k = stop_then (type_at place most s d) (λ ty m. r.for_named place most room nested i d false ty s m) (λ ty m. forth (named_laws i d false ty) s m) in omega arith)
 
   evaluated_stop : (i : ℕ) (s : Text) (d n : ℕ) → same_terminal (terminal (s d)) t.Word ≡ true → n ≤ stop (nested p.Evaluation s d) → n ≤ stop (r.for_evaluated place most room nested i s d)
   unfolding r.for_evaluated r.evaluations r.next_evaluation
   evaluated_stop i s d n w h =
       let a = stop_then (nested p.Evaluation s d) (λ x m. Found (x ∷ []) m) (λ x m. le_refl m) in
-      let b = stop_then (and_then (nested p.Evaluation s d) (λ x m. Found (x ∷ []) m)) (λ b m. loop most (is t.Comma) (r.next_evaluation place most room nested) b s m) (λ b m. (comma_loop b).onward s m) in
-      let c = stop_then (r.evaluations place most room nested s d) (λ es m. r.for_tail place most room nested i es s m) (λ es m. (tail_laws i es).onward s m) in
+      let b = stop_then (and_then (nested p.Evaluation s d) (λ x m. Found (x ∷ []) m)) (λ b m. loop most (is t.Comma) (r.next_evaluation place most room nested) b s m) (λ b m. forth (comma_loop b) s m) in
+      let c = stop_then (r.evaluations place most room nested s d) (λ es m. r.for_tail place most room nested i es s m) (λ es m. forth (tail_laws i es) s m) in
       let e : n ≤ stop (and_then (r.evaluations place most room nested s d) (λ es m. r.for_tail place most room nested i es s m)) = omega arith in
       subst (λ (z : Bool). n ≤ stop (cond z (r.for_tail place most room nested i [] s d) (and_then (r.evaluations place most room nested s d) (λ es m. r.for_tail place most room nested i es s m)))) (sym (word_no_semicolon (terminal (s d)) w)) e
     where
       comma_loop : (b : List StmtTree) → Laws most (loop most (is t.Comma) (r.next_evaluation place most room nested) b) (λ s a i j. Steps Comma s b a i j) (λ a k. InList a k × (same_terminal k t.Comma ≡ false)) TallList
       comma_loop b = loop_laws most (is t.Comma) (r.next_evaluation place most room nested) Comma InList TallList
           (λ b. tok t.Comma refl (λ _. seq (u p.Evaluation) (λ x. pure_laws most (b ++ x ∷ []) InList TallList)
-          (λ s x m c j d last. same_after (λ y. among list_ends y ≡ true) s (b ++ x ∷ []) c m j d last) (λ s x m c j d h. tall.tall_end stmt_height room b x c d.tree h)))
+          (λ s x m c j d last. same_after (λ y. among list_ends y ≡ true) s (b ++ x ∷ []) c m j d last) (λ s x m c j d at h. tall.tall_end stmt_nodes_at room b x c d.tree h)))
           (λ s x a i j d. is_kind _ _ d.kind)
           (λ s x a i j d. let h = evaluation_forward place most given s d.rest.first in let e = d.rest.rest.at in omega arith)
           (λ s x a i j d. in_list _ t.Comma d.kind sign_facts.1)
-          (λ s x a i j d h. tall.tall_before stmt_height room x d.rest.part a d.rest.rest.tree h) most (le_refl most) b
+          (λ s x a i j d at h. tall.tall_before stmt_nodes_at room x d.rest.part a d.rest.rest.tree h) most (le_refl most) b
 
   seen : (i : ℕ) (s v : Text) (d : ℕ) → ((x : ℕ) → x ≤ stop (ahead declares (r.for_declared place most room nested i) (r.for_evaluated place most room nested i) s d) → v x ≡ s x) → declares v d ≡ declares s d
-  seen i s v d same = declares_depends s v d (same d (reach d (λ e. (declared_laws i).onward s d) (λ e. (evaluated_laws i).onward s d)))
-      (λ w. same (suc d) (reach (suc d) (λ e. declared_stop i s d (suc d) w (type_past place most given s d w)) (λ e. evaluated_stop i s d (suc d) w (evaluation_past place most given s d w (nested p.Evaluation) (λ a. room < stmt_height a) (u p.Evaluation)))))
-      (λ w b. same (suc (suc d)) (reach (suc (suc d)) (λ e. declared_stop i s d (suc (suc d)) w (type_past_bracket place most given s d w b)) (λ e. evaluated_stop i s d (suc (suc d)) w (evaluation_past_bracket place most given s d w b (nested p.Evaluation) (λ a. room < stmt_height a) (u p.Evaluation)))))
+  seen i s v d same = declares_depends s v d (same d (reach d (λ e. forth (declared_laws i) s d) (λ e. forth (evaluated_laws i) s d)))
+      (λ w. same (suc d) (reach (suc d) (λ e. declared_stop i s d (suc d) w (type_past place most given s d w)) (λ e. evaluated_stop i s d (suc d) w (evaluation_past place most given s d w (nested p.Evaluation) (StmtHasNode (suc room)) (u p.Evaluation)))))
+      (λ w b. same (suc (suc d)) (reach (suc (suc d)) (λ e. declared_stop i s d (suc (suc d)) w (type_past_bracket place most given s d w b)) (λ e. evaluated_stop i s d (suc (suc d)) w (evaluation_past_bracket place most given s d w b (nested p.Evaluation) (StmtHasNode (suc room)) (u p.Evaluation)))))
     where
       reach : (n : ℕ) → (declares s d ≡ true → n ≤ stop (r.for_declared place most room nested i s d)) → (declares s d ≡ false → n ≤ stop (r.for_evaluated place most room nested i s d))
           → n ≤ stop (ahead declares (r.for_declared place most room nested i) (r.for_evaluated place most room nested i) s d)

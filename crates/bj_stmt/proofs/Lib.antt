@@ -1,5 +1,9 @@
 pub mod Expressions
 pub mod StmtShape
+pub mod StmtNodeForms
+pub mod StmtHeights
+pub mod StmtNodeHeights
+pub mod LowStmts
 pub mod StmtTall
 pub mod Leftmost
 pub mod Small

@@ -11,7 +11,6 @@ use Rattle.bj_tree.specs.declared.expr.ExprTree.TheVariants as tree
 use Rattle.bj_tree.specs.declared.stmt.VariableTree.{VariableTree}
 use Rattle.bj_tree.specs.declared.stmt.StmtTree.{StmtTree}
 use Rattle.bj_tree.specs.declared.stmt.StmtTree.TheVariants as stmt
-use Rattle.bj_tree.specs.Size.{height_of}
 use Rattle.bj_grammar.specs.declared.terminal.Terminal.{Terminal}
 use Rattle.bj_grammar.specs.declared.terminal.Terminal.TheVariants as t
 use Rattle.bj_grammar.specs.Terminal.{terminal, same_terminal, among}
@@ -28,10 +27,10 @@ use Rattle.bj_stmt.specs.Grammar as g
 use Rattle.bj_stmt.specs.Grammar.{is_statement, jump, jumps, dangles, MaybeFinal, MaybeInit, MaybeExpression, MaybeExpressions, MaybeName, Variables, Declaration, Evaluation, Evaluations, ForInit, Statement, Block, BlockStatements, BlockStatement, Members, Member, Label, Catches, Catch, ConstructorCall, ConstructorBody}
 use Rattle.bj_stmt.specs.Reading as r
 use Rattle.bj_stmt.specs.Reading.{declares, is_labelled, is_class_lock, is_constructor_call, constructors, inside, is_empty, branch_words, loop_words, leave_words, guard_words}
-use Rattle.bj_stmt.specs.Heights.{variable_height, stmt_height}
+use Rattle.bj_stmt.specs.Nodes.{stmt_nodes_at, StmtHasNode, SomeStmtHasNode}
 use Rattle.bj_stmt.proofs.Expressions.{Given, expression_words, enders, AfterType, Never}
+use Rattle.bj_stmt.proofs.StmtNodeForms as forms
 use Rattle.bj_stmt.proofs.StmtTall as tall
-use Rattle.bj_stmt.proofs.StmtTall.{stmts_height, variables_height}
 use Rattle.bj_stmt.proofs.StmtShape.{block_forward, block_statement_forward, member_forward, label_forward, catch_forward, evaluation_forward}
 use Rattle.bj_stmt.proofs.Leftmost.{each, or_cases, is_not, none_of, or_none, or_split, and_first, and_second, Second, Next, followed, expression_leftmost, paren_second, semicolon_second, comma_second}
 use Rattle.bj_stmt.proofs.Begins as Begins
@@ -118,78 +117,78 @@ module _ (place : ℕ → Span) (most : ℕ) (given : Given place most) where
         (λ v i j d. let w = some_catch v i j d in (w.0, suc (suc (suc (suc (suc (suc (suc i)))))), (let h : i ≤ suc (suc (suc (suc (suc (suc (suc i)))))) = omega arith in h), w.1));
   }
 
-  -- ---- each has a height
+  -- ---- the root of each is a node at its first token
 
-  high_block : (s : Text) {a : StmtTree} {i j : ℕ} → Block place s a i j → 0 < stmt_height a
-  high_block s {i = i} (g.braces {b = b} {m = m} o d c e at) = let x = ap stmt_height e in let y = tall.block_height (place i) b (place m) in omega arith
+  high_block : (s : Text) {a : StmtTree} {i j : ℕ} → Block place s a i j → StmtHasNode 1 (place i) a
+  high_block s {i = i} (g.braces {b = b} {m = m} o d c e at) = tall.rooted (place i) _ _ e (forms.block_root (place i) b (place m))
 
-  high_evaluation : (s : Text) {a : StmtTree} {i j : ℕ} → Evaluation place s a i j → 0 < stmt_height a
-  high_evaluation s {i = i} (g.evaluation {x = v} d e) = let x = ap stmt_height e in let y = tall.expression_height (place i) v in omega arith
+  high_evaluation : (s : Text) {a : StmtTree} {i j : ℕ} → Evaluation place s a i j → StmtHasNode 1 (place i) a
+  high_evaluation s {i = i} (g.evaluation {x = v} d e) = tall.rooted (place i) _ _ e (forms.expression_root (place i) v)
 
-  high_jump : (k : Terminal) (at : Span) (label : Option NamedPlace) → 0 < stmt_height (jump k at label)
-  high_jump t.Break at label = let y = tall.break_height at label in omega arith
-  high_jump _ at label = let y = tall.continue_height at label in omega arith
+  jump_root : (k : Terminal) (at : Span) (label : Option NamedPlace) → stmt_nodes_at (jump k at label) 0 ≡ at ∷ []
+  jump_root t.Break at label = forms.break_root at label
+  jump_root _ at label = forms.continue_root at label
 
-  high_statement : (s : Text) {a : StmtTree} {i j : ℕ} → Statement place s a i j → 0 < stmt_height a
+  high_statement : (s : Text) {a : StmtTree} {i j : ℕ} → Statement place s a i j → StmtHasNode 1 (place i) a
   high_statement s (g.block d) = high_block s d
-  high_statement s {i = i} (g.empty o e at) = let x = ap stmt_height e in let y = tall.empty_height (place i) in omega arith
+  high_statement s {i = i} (g.empty o e at) = tall.rooted (place i) _ _ e (forms.empty_root (place i))
   high_statement s (g.evaluate d o at) = high_evaluation s d
-  high_statement s {i = i} (g.choice {x = v} {b = b} o q d c body e) = let x = ap stmt_height e in let y = tall.if_height (place i) v b in omega arith
-  high_statement s {i = i} (g.choice_else {x = v} {b = b} {c = c} o q d p2 body h o2 b2 e) = let x = ap stmt_height e in let y = tall.ifelse_height (place i) v b c in omega arith
-  high_statement s {i = i} (g.while {x = v} {b = b} o q d c body e) = let x = ap stmt_height e in let y = tall.while_height (place i) v b in omega arith
-  high_statement s {i = i} (g.do_while {b = b} {x = v} o body o2 q d c e2 e at) = let x = ap stmt_height e in let y = tall.do_height (place i) b v in omega arith
-  high_statement s {i = i} (g.for {inits = inits} {x = v} {us = us} {b = b} o q n q1 d q2 us2 c body e) = let x = ap stmt_height e in let y = tall.for_height (place i) inits v us b in omega arith
-  high_statement s {i = i} (g.for_each {f = f} {ty = ty} {x = v} {b = b} {m = m} o q fin typ w k d c body e) = let x = ap stmt_height e in let y = tall.foreach_height (place i) f ty (g.named (place m) (s m)) v b in omega arith
-  high_statement s {i = i} (g.switch {x = v} {ms = ms} o q d c l members e2 e at) = let x = ap stmt_height e in let y = tall.switch_height (place i) v ms in omega arith
-  high_statement s {i = i} (g.labelled {b = b} o k body e) = let x = ap stmt_height e in let y = tall.labelled_height (place i) (s i).text b in omega arith
-  high_statement s {i = i} (g.jump_to {l = l} o d q e at) = let x = ap stmt_height e in let y = high_jump (terminal (s i)) (place i) l in omega arith
-  high_statement s {i = i} (g.return {x = v} o d q e at) = let x = ap stmt_height e in let y = tall.return_height (place i) v in omega arith
-  high_statement s {i = i} (g.throw {x = v} o d q e at) = let x = ap stmt_height e in let y = tall.throw_height (place i) v in omega arith
-  high_statement s {i = i} (g.synchronized {x = v} {b = b} o q d c body e) = let x = ap stmt_height e in let y = tall.synchronized_height (place i) v b in omega arith
-  high_statement s {i = i} (g.synchronized_class {b = b} o q w k l c body e) = let x = ap stmt_height e in let y = tall.synchronizedclass_height (place i) (g.named (place (suc (suc i))) (s (suc (suc i)))) b in omega arith
-  high_statement s {i = i} (g.try {b = b} {cs = cs} o d c h e) = let x = ap stmt_height e in let y = tall.try_height (place i) b cs in omega arith
-  high_statement s {i = i} (g.try_finally {b = b} {cs = cs} {f = f} o d c o2 fin e) = let x = ap stmt_height e in let y = tall.tryfinally_height (place i) b cs f in omega arith
+  high_statement s {i = i} (g.choice {x = v} {b = b} o q d c body e) = tall.rooted (place i) _ _ e (forms.if_root (place i) v b)
+  high_statement s {i = i} (g.choice_else {x = v} {b = b} {c = c} o q d p2 body h o2 b2 e) = tall.rooted (place i) _ _ e (forms.ifelse_root (place i) v b c)
+  high_statement s {i = i} (g.while {x = v} {b = b} o q d c body e) = tall.rooted (place i) _ _ e (forms.while_root (place i) v b)
+  high_statement s {i = i} (g.do_while {b = b} {x = v} o body o2 q d c e2 e at) = tall.rooted (place i) _ _ e (forms.do_root (place i) b v)
+  high_statement s {i = i} (g.for {inits = inits} {x = v} {us = us} {b = b} o q n q1 d q2 us2 c body e) = tall.rooted (place i) _ _ e (forms.for_root (place i) inits v us b)
+  high_statement s {i = i} (g.for_each {f = f} {ty = ty} {x = v} {b = b} {m = m} o q fin typ w k d c body e) = tall.rooted (place i) _ _ e (forms.foreach_root (place i) f ty (g.named (place m) (s m)) v b)
+  high_statement s {i = i} (g.switch {x = v} {ms = ms} o q d c l members e2 e at) = tall.rooted (place i) _ _ e (forms.switch_root (place i) v ms)
+  high_statement s {i = i} (g.labelled {b = b} o k body e) = tall.rooted (place i) _ _ e (forms.labelled_root (place i) (s i).text b)
+  high_statement s {i = i} (g.jump_to {l = l} o d q e at) = tall.rooted (place i) _ _ e (jump_root (terminal (s i)) (place i) l)
+  high_statement s {i = i} (g.return {x = v} o d q e at) = tall.rooted (place i) _ _ e (forms.return_root (place i) v)
+  high_statement s {i = i} (g.throw {x = v} o d q e at) = tall.rooted (place i) _ _ e (forms.throw_root (place i) v)
+  high_statement s {i = i} (g.synchronized {x = v} {b = b} o q d c body e) = tall.rooted (place i) _ _ e (forms.synchronized_root (place i) v b)
+  high_statement s {i = i} (g.synchronized_class {b = b} o q w k l c body e) = tall.rooted (place i) _ _ e (forms.synchronizedclass_root (place i) (g.named (place (suc (suc i))) (s (suc (suc i)))) b)
+  high_statement s {i = i} (g.try {b = b} {cs = cs} o d c h e) = tall.rooted (place i) _ _ e (forms.try_root (place i) b cs)
+  high_statement s {i = i} (g.try_finally {b = b} {cs = cs} {f = f} o d c o2 fin e) = tall.rooted (place i) _ _ e (forms.tryfinally_root (place i) b cs f)
 
-  high_block_statement : (s : Text) {a : StmtTree} {i j : ℕ} → BlockStatement place s a i j → 0 < stmt_height a
-  high_block_statement s {i = i} (g.local (g.declaration {f = f} {ty = ty} {vs = vs} o d v e) q at) = let x = ap stmt_height e in let y = tall.local_height (place i) f ty vs in omega arith
+  high_block_statement : (s : Text) {a : StmtTree} {i j : ℕ} → BlockStatement place s a i j → StmtHasNode 1 (place i) a
+  high_block_statement s {i = i} (g.local (g.declaration {f = f} {ty = ty} {vs = vs} o d v e) q at) = tall.rooted (place i) _ _ e (forms.local_root (place i) f ty vs)
   high_block_statement s (g.statement d) = high_statement s d
 
-  high_label : (s : Text) {a : StmtTree} {i j : ℕ} → Label place s a i j → 0 < stmt_height a
-  high_label s {i = i} (g.case {x = v} o d c e at) = let x = ap stmt_height e in let y = tall.case_height (place i) v in omega arith
-  high_label s {i = i} (g.default o c e at) = let x = ap stmt_height e in let y = tall.default_height (place i) in omega arith
+  high_label : (s : Text) {a : StmtTree} {i j : ℕ} → Label place s a i j → StmtHasNode 1 (place i) a
+  high_label s {i = i} (g.case {x = v} o d c e at) = tall.rooted (place i) _ _ e (forms.case_root (place i) v)
+  high_label s {i = i} (g.default o c e at) = tall.rooted (place i) _ _ e (forms.default_root (place i))
 
-  high_part : (x : StmtPart) (s : Text) (a : StmtTree) (i j : ℕ) → StandsAs x place s a i j → 0 < stmt_height a
+  high_part : (x : StmtPart) (s : Text) (a : StmtTree) (i j : ℕ) → StandsAs x place s a i j → StmtHasNode 1 (place i) a
   high_part p.Statement s a i j d = high_statement s d
   high_part p.BlockStatement s a i j d = high_block_statement s d
   high_part p.Block s a i j d = high_block s d
   high_part p.Member s a i j (g.label d) = high_label s d
   high_part p.Member s a i j (g.in_group d) = high_block_statement s d
   high_part p.Label s a i j d = high_label s d
-  high_part p.Catch s a i j (g.catch {f = f} {ty = ty} {b = b} {m = m} o q fin typ w c d e) = let x = ap stmt_height e in let y = tall.catch_height (place i) f (ty ∷ []) (g.named (place m) (s m)) b in omega arith
+  high_part p.Catch s a i j (g.catch {f = f} {ty = ty} {b = b} {m = m} o q fin typ w c d e) = tall.rooted (place i) _ _ e (forms.catch_root (place i) f (ty ∷ []) (g.named (place m) (s m)) b)
   high_part p.Evaluation s a i j d = high_evaluation s d
-  high_part p.ConstructorCall s a i j (g.of_this {xs = xs} o q d c q2 e at) = let x = ap stmt_height e in let y = tall.constructorcall_height (place i) false xs in omega arith
-  high_part p.ConstructorCall s a i j (g.of_super {xs = xs} o q d c q2 e at) = let x = ap stmt_height e in let y = tall.constructorcall_height (place i) true xs in omega arith
+  high_part p.ConstructorCall s a i j (g.of_this {xs = xs} o q d c q2 e at) = tall.rooted (place i) _ _ e (forms.constructorcall_root (place i) false xs)
+  high_part p.ConstructorCall s a i j (g.of_super {xs = xs} o q d c q2 e at) = tall.rooted (place i) _ _ e (forms.constructorcall_root (place i) true xs)
   high_part p.ConstructorBody s a i j (g.plain_body d) = high_block s d
-  high_part p.ConstructorBody s a i j (g.calling_body {c = c} {b = b} {m = m} o d e q tree at) = let x = ap stmt_height tree in let y = tall.block_height (place i) (c ∷ b) (place m) in omega arith
+  high_part p.ConstructorBody s a i j (g.calling_body {c = c} {b = b} {m = m} o d e q tree at) = tall.rooted (place i) _ _ tree (forms.block_root (place i) (c ∷ b) (place m))
 
   -- ---- every depth
 
   pub record Depth (n : ℕ) : Type 0 where
-    pub parts : (x : StmtPart) → Laws most (nested place most n x) (StandsAs x place) (AfterPart x) (λ a. n < stmt_height a)
+    pub parts : (x : StmtPart) → Laws most (nested place most n x) (StandsAs x place) (AfterPart x) (StmtHasNode (suc n))
     pub greedy : Greedy (nested place most n p.Statement)
 
   pub depth : (n : ℕ) → Depth n
   unfolding nested r.rule
-  depth zero = record { parts = λ x. over_laws most (StandsAs x place) (AfterPart x) (λ a. 0 < stmt_height a) (shape_of x) (λ s a i j d. inl (high_part x s a i j d)); greedy = over_greedy }
+  depth zero = record { parts = λ x. over_laws most place (StandsAs x place) (AfterPart x) (StmtHasNode 1) (shape_of x) (λ s a i j d. inl (high_part x s a i j d)); greedy = over_greedy place }
   depth (suc n) = let d = depth n in record { parts = λ x. rule_laws place most given n (nested place most n) d.parts d.greedy x; greedy = statement_greedy place most given n (nested place most n) d.parts d.greedy }
 
   -- ---- statements up to the end of the text
 
   module _ (room : ℕ) where
-    abbrev TallList : List StmtTree → Type 0
-    TallList a = room < stmts_height a
+    abbrev TallList : Span → List StmtTree → Type 0
+    TallList = SomeStmtHasNode (suc room)
 
-    parts : (x : StmtPart) → Laws most (nested place most room x) (StandsAs x place) (AfterPart x) (λ a. room < stmt_height a)
+    parts : (x : StmtPart) → Laws most (nested place most room x) (StandsAs x place) (AfterPart x) (StmtHasNode (suc room))
     parts = (depth room).parts
 
     abbrev One : Rel (List StmtTree)
@@ -241,10 +240,10 @@ module _ (place : ℕ → Span) (most : ℕ) (given : Given place most) where
     unfolding statements_within
     some_laws = renamed SomeRel (Before t.Other)
         (rep_by {Q = StmtStep} {E = InBlock} on_line
-        (seq (parts p.BlockStatement) (λ c. pure_laws most (c ∷ []) InBlock TallList) (λ s c m a j d last. in_block c _ (same_after (λ y. among no_follow y ≡ false) s (c ∷ []) a m j d last)) (λ s c m a j d h. tall.tall_one stmt_height room c a d.tree h))
-        (λ b. seq (parts p.BlockStatement) (λ c. pure_laws most (b ++ c ∷ []) InBlock TallList) (λ s c m a j d last. in_block c _ (same_after (λ y. among no_follow y ≡ false) s (b ++ c ∷ []) a m j d last)) (λ s c m a j d h. tall.tall_end stmt_height room b c a d.tree h))
+        (seq (parts p.BlockStatement) (λ c. pure_laws most (c ∷ []) InBlock TallList) (λ s c m a j d last. in_block c _ (same_after (λ y. among no_follow y ≡ false) s (c ∷ []) a m j d last)) (λ s c m a j d at h. tall.tall_one stmt_nodes_at room c a d.tree h))
+        (λ b. seq (parts p.BlockStatement) (λ c. pure_laws most (b ++ c ∷ []) InBlock TallList) (λ s c m a j d last. in_block c _ (same_after (λ y. among no_follow y ≡ false) s (b ++ c ∷ []) a m j d last)) (λ s c m a j d at h. tall.tall_end stmt_nodes_at room b c a d.tree h))
         (λ s x a i j d. is_on_line _ (first_of_step s x a i j d).1.1)
         (λ s x a i j d. let h = block_statement_forward place most given s d.first in let e = d.rest.at in omega arith)
         (λ s x a i j d. (first_of_step s x a i j d).1.0)
-        (λ s x a i j d h. tall.tall_before stmt_height room x d.part a d.rest.tree h))
+        (λ s x a i j d at h. tall.tall_before stmt_nodes_at room x d.part a d.rest.tree h))
         to_some from_some (λ a x e. (none_of no_follow x t.Other e end_facts.0, ap on_line e ∙ end_facts.1))

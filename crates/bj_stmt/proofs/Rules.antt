@@ -9,32 +9,31 @@ use Rattle.bj_tree.specs.declared.types.NamedPlace.{NamedPlace}
 use Rattle.bj_tree.specs.declared.expr.ExprTree.{ExprTree}
 use Rattle.bj_tree.specs.declared.stmt.StmtTree.{StmtTree}
 use Rattle.bj_tree.specs.declared.stmt.StmtTree.TheVariants as stmt
-use Rattle.bj_tree.specs.Size.{height_of}
 use Rattle.bj_grammar.specs.declared.terminal.Terminal.{Terminal}
 use Rattle.bj_grammar.specs.declared.terminal.Terminal.TheVariants as t
 use Rattle.bj_grammar.specs.Terminal.{terminal, same_terminal, among}
 use Rattle.bj_grammar.specs.Reader.{Text, Answer, Found, Wrong, Over, Parser, and_then, ◌>>=◌, pure, over, here, operator, word, sign, ahead, choose, loop}
 use Rattle.bj_grammar.proofs.Terminals.{is_token}
-use Rattle.bj_grammar.proofs.Laws.{Rel, Shape, Outcome, Laws, Then, Same, Word, Operator, Either, Steps, done, stop, same_laws, pure_laws, over_laws, steps_end, steps_fold, is_kind, kind_is, and_then_found, ahead_laws, loop_laws, reaches, seq, alt, tok, op, start, renamed, taller, rep, rep_by}
+use Rattle.bj_grammar.proofs.Laws.{Rel, Shape, Outcome, Laws, Then, Same, Word, Operator, Either, Steps, done, reached, stop, halted, same_laws, pure_laws, over_laws, steps_end, steps_fold, is_kind, kind_is, and_then_found, ahead_laws, loop_laws, reaches, seq, alt, tok, op, start, renamed, taller, rep, rep_by}
 use Rattle.bj_expr.specs.declared.part.Part.TheVariants as part
 use Rattle.bj_expr.specs.Grammar.{TypeAt, Expression}
 use Rattle.bj_expr.specs.Reading.{is, type_at}
+use Rattle.bj_expr.specs.Nodes.{HasNode}
 use Rattle.bj_stmt.specs.declared.part.StmtPart.{StmtPart}
 use Rattle.bj_stmt.specs.declared.part.StmtPart.TheVariants as p
 use Rattle.bj_stmt.specs.Grammar as g
 use Rattle.bj_stmt.specs.Grammar.{jump, jumps, dangles, MaybeFinal, MaybeExpression, MaybeExpressions, MaybeName, Variables, Declaration, Evaluation, Evaluations, ForInit, Statement, Block, BlockStatements, BlockStatement, Members, Member, Label, Catches, Catch, ConstructorCall, ConstructorBody}
 use Rattle.bj_stmt.specs.Reading as r
 use Rattle.bj_stmt.specs.Reading.{declares, is_labelled, is_class_lock, is_constructor_call, constructors, inside, is_empty, branch_words, loop_words, leave_words, guard_words}
-use Rattle.bj_stmt.specs.Heights.{stmt_height}
+use Rattle.bj_stmt.specs.Nodes.{stmt_nodes_at, StmtHasNode, SomeStmtHasNode}
 use Rattle.bj_stmt.proofs.Expressions.{Given, expression_words, enders, AfterType, Never}
 use Rattle.bj_stmt.proofs.StmtTall as tall
-use Rattle.bj_stmt.proofs.StmtTall.{stmts_height}
 use Rattle.bj_stmt.proofs.StmtShape.{block_forward, block_statement_forward, member_forward, label_forward, catch_forward, evaluation_forward}
 use Rattle.bj_stmt.proofs.Leftmost.{each, is_not, none_of, or_none, or_split, and_first, Second, Next, followed, expression_leftmost, paren_second, semicolon_second, comma_second}
 use Rattle.bj_stmt.proofs.Begins as Begins
 use Rattle.bj_stmt.proofs.Begins.{no_follow, member_words, First, member_first}
 use Rattle.bj_stmt.proofs.Starts.{member_begins, block_statement_begins, statement_begins, evaluation_begins, block_begins, block_member_word, statement_block_word, is_inside, dims_two, type_declares, final_declares, evaluation_declares, evaluation_next}
-use Rattle.bj_stmt.proofs.Ahead.{stop_then, stop_word, declares_depends, labelled_depends, class_depends, constructor_depends, type_past, type_past_bracket, evaluation_past, evaluation_past_bracket, value_past, value_past_dot, goes_on}
+use Rattle.bj_stmt.proofs.Ahead.{stop_then, forth, stop_word, declares_depends, labelled_depends, class_depends, constructor_depends, type_past, type_past_bracket, evaluation_past, evaluation_past_bracket, value_past, value_past_dot, goes_on}
 use Rattle.bj_stmt.proofs.Small.{same_after, pick_laws, list_facts, VariablesBehind, variables_behind_laws, to_named, from_named, declaration_laws, evaluation_laws, constructor_call_laws, label_laws, LabelRel, case_laws, default_laws, to_label, from_label, Any, Before, InList, list_ends, in_list, in_enders, sign_facts, final_laws, type_no_final, NameAt, name_laws, maybe_name_laws, ExprRel, value_laws, value_ends, maybe_value_laws, all_values_laws}
 
 -- ---- what each part is, and what may follow it
@@ -78,16 +77,15 @@ in_block a k e = let w = or_split (same_terminal k t.Else) _ e in record { no_el
 
 -- ---- a reader that gives the same everywhere has the same laws
 
-pub equal_laws : {A : Type 0} {n : ℕ} {q : Parser A} {D : Rel A} {E : A → Terminal → Type 0} {T : A → Type 0} (p : Parser A) → ((s : Text) (i : ℕ) → p s i ≡ q s i) → Laws n q D E T → Laws n p D E T
+pub equal_laws : {A : Type 0} {n : ℕ} {q : Parser A} {D : Rel A} {E : A → Terminal → Type 0} {T : Span → A → Type 0} (p : Parser A) → ((s : Text) (i : ℕ) → p s i ≡ q s i) → Laws n q D E T → Laws n p D E T
 equal_laws {n} {q} {D} {E} {T} p e u = record {
   shape = u.shape;
-  onward = λ s i. subst (λ (r : Answer _). i ≤ stop r) (sym (e s i)) (u.onward s i);
+  onward = λ s i. subst (λ (r : Answer _). i ≤ reached r) (sym (e s i)) (u.onward s i);
   local = λ s t i same. e t i ∙ (u.local s t i (λ x h. same x (subst (λ (r : Answer _). x ≤ stop r) (sym (e s i)) h)) ∙ sym (e s i));
   sound = λ s i a j is. u.sound s i a j (sym (e s i) ∙ is);
-  inside = λ s i a j is. u.inside s i a j (sym (e s i) ∙ is);
+  inside = λ s i x low high. u.inside s i x low (subst (λ (r : Answer _). x < reached r) (e s i) high);
   complete = λ s i a j d last. subst (λ (r : Answer _). Outcome n T r a i j) (sym (e s i)) (u.complete s i a j d last);
-  viable = λ s i k is. u.viable s i k (sym (e s i) ∙ is);
-  far = λ s i k is. u.far s i k (sym (e s i) ∙ is);
+  viable = λ s i k is. u.viable s i k (sym (ap halted (e s i)) ∙ is);
 }
 
 -- ---- what reading a statement leaves behind it: no `else` that an `if` in it could take
@@ -126,8 +124,8 @@ ahead_greedy test p q u v s i a j e = of (test s i) e
 pub pure_greedy : (b : StmtTree) → dangles b ≡ false → Greedy (pure b)
 pure_greedy b never s i a j e h = let tree : b ≡ a = cc in absurd (both_ways (dangles b) never (ap dangles tree ∙ h))
 
-pub over_greedy : Greedy over
-over_greedy s i a j e = absurd (cc)
+pub over_greedy : (place : ℕ → Span) → Greedy (over place)
+over_greedy place s i a j e = absurd (cc)
 
 -- a statement that ends with another
 pub last_greedy : (q : Parser StmtTree) (f : StmtTree → StmtTree) → Greedy q → ((b : StmtTree) → dangles (f b) ≡ dangles b) → Greedy (q >>= λ b. pure (f b))
@@ -160,13 +158,13 @@ and_join a b e h = ap (λ (x : Bool). x && b) e ∙ h
 -- ---- the rules
 
 module _ (place : ℕ → Span) (most : ℕ) (given : Given place most) (room : ℕ) (nested : StmtPart → Parser StmtTree)
-    (u : (x : StmtPart) → Laws most (nested x) (StandsAs x place) (AfterPart x) (λ a. room < stmt_height a))
+    (u : (x : StmtPart) → Laws most (nested x) (StandsAs x place) (AfterPart x) (StmtHasNode (suc room)))
     (greedy : Greedy (nested p.Statement)) where
-  abbrev pub TallStmt : StmtTree → Type 0
-  TallStmt a = suc room < stmt_height a
+  abbrev pub TallStmt : Span → StmtTree → Type 0
+  TallStmt = StmtHasNode (suc (suc room))
 
-  abbrev TallList : List StmtTree → Type 0
-  TallList a = room < stmts_height a
+  abbrev TallList : Span → List StmtTree → Type 0
+  TallList = SomeStmtHasNode (suc room)
 
   abbrev pub BodyRel : Rel StmtTree
   BodyRel = λ s a i j. Statement place s a i j
@@ -174,7 +172,7 @@ module _ (place : ℕ → Span) (most : ℕ) (given : Given place most) (room : 
   abbrev pub BlockRel : Rel StmtTree
   BlockRel = λ s a i j. Block place s a i j
 
-  body_laws : Laws most (nested p.Statement) BodyRel AfterStatement (λ a. room < stmt_height a)
+  body_laws : Laws most (nested p.Statement) BodyRel AfterStatement (StmtHasNode (suc room))
   body_laws = u p.Statement
 
   -- what follows a statement that ends with another follows this one
@@ -185,17 +183,17 @@ module _ (place : ℕ → Span) (most : ℕ) (given : Given place most) (room : 
   }
 
   -- a body at the end
-  ended_laws : (f : StmtTree → StmtTree) → ((b : StmtTree) → dangles (f b) ≡ dangles b) → ((b a : StmtTree) → a ≡ f b → room < stmt_height b → TallStmt a)
+  ended_laws : (f : StmtTree → StmtTree) → ((b : StmtTree) → dangles (f b) ≡ dangles b) → ((b a : StmtTree) → a ≡ f b → (at : Span) → StmtHasNode (suc room) at b → TallStmt at a)
       → Laws most (nested p.Statement >>= λ b. pure (f b)) (Then BodyRel (λ b. Same (f b))) AfterStatement TallStmt
-  ended_laws f same high = seq body_laws (λ b. pure_laws most (f b) AfterStatement TallStmt) (λ s b m a j d last. handed f same s b a m j d last) (λ s b m a j d h. high b a d.tree h)
+  ended_laws f same high = seq body_laws (λ b. pure_laws most (f b) AfterStatement TallStmt) (λ s b m a j d last. handed f same s b a m j d last) (λ s b m a j d at h. high b a d.tree at h)
 
   -- an expression in parentheses
   in_parens_laws : (f : ExprTree → Parser StmtTree) (Q : ExprTree → Rel StmtTree) (E : StmtTree → Terminal → Type 0) → ((x : ExprTree) → Laws most (f x) (Q x) E TallStmt)
-      → ((x : ExprTree) (s : Text) (a : StmtTree) (m j : ℕ) → Q x s a m j → room < height_of x → TallStmt a)
+      → ((x : ExprTree) (s : Text) (a : StmtTree) (m j : ℕ) → Q x s a m j → (at : Span) → HasNode (suc room) at x → TallStmt at a)
       → Laws most (r.in_parens place most room nested f) (Word t.LeftParen (λ _. Then (ExprRel place most given room) (λ x. Word t.RightParen (λ _. Q x)))) E TallStmt
   unfolding r.in_parens
   in_parens_laws f Q E v high = tok t.LeftParen refl (λ _. seq (value_laws place most given room) (λ x. tok t.RightParen refl (λ _. v x))
-      (λ s x m a j d last. value_ends place most given room x _ t.RightParen d.kind sign_facts.2) (λ s x m a j d h. high x s a (suc m) j d.rest h))
+      (λ s x m a j d last. value_ends place most given room x _ t.RightParen d.kind sign_facts.2) (λ s x m a j d at h. high x s a (suc m) j d.rest at h))
 
   abbrev InParens : (ExprTree → Rel StmtTree) → Rel StmtTree
   InParens Q = Word t.LeftParen (λ _. Then (λ s a i j. Expression place s a i j) (λ x. Word t.RightParen (λ _. Q x)))
@@ -218,7 +216,7 @@ module _ (place : ℕ → Span) (most : ℕ) (given : Given place most) (room : 
   checked false i x b = r.choice_tail place most room nested i x b
 
   else_laws : (i : ℕ) (x : ExprTree) (b : StmtTree) → Laws most (sign t.Else (nested p.Statement >>= λ c. pure (stmt.IfElse (place i) x b c))) (ElseRel i x b) AfterStatement TallStmt
-  else_laws i x b = tok t.Else refl (λ _. ended_laws (stmt.IfElse (place i) x b) (λ c. Begins.ifelse_dangles (place i) x b c) (λ c a e h. tall.tall_ifelse_other room (place i) x b c a e h))
+  else_laws i x b = tok t.Else refl (λ _. ended_laws (stmt.IfElse (place i) x b) (λ c. Begins.ifelse_dangles (place i) x b c) (λ c a e at h. tall.tall_ifelse_other room (place i) x b c a e h))
 
   if_no_else : (i : ℕ) (x : ExprTree) (b : StmtTree) (s : Text) (a : StmtTree) (m j : ℕ) → Same (stmt.If (place i) x b) s a m j → AfterStatement a (terminal (s j)) → same_terminal (terminal (s m)) t.Else ≡ false
   if_no_else i x b s a m j d last = subst (λ (n : ℕ). same_terminal (terminal (s n)) t.Else ≡ false) d.at (last.no_else (ap dangles d.tree ∙ Begins.if_dangles (place i) x b))
@@ -245,9 +243,9 @@ module _ (place : ℕ → Span) (most : ℕ) (given : Given place most) (room : 
       fits s b m a j (inl d) last = record { no_else = λ h. absurd (both_ways (dangles b) d.holds h); no_handler = none_of handlers (terminal (s m)) t.Else d.stands.kind else_no_handler }
       fits s b m a j (inr d) last = record { no_else = λ h. if_no_else i x b s a m j d last; no_handler = subst (λ (n : ℕ). among handlers (terminal (s n)) ≡ false) d.at last.no_handler }
 
-      high : (s : Text) (b : StmtTree) (m : ℕ) (a : StmtTree) (j : ℕ) → TailRel i x b s a m j → room < stmt_height b → TallStmt a
-      high s b m a j (inl d) h = tall.tall_ifelse_body room (place i) x b d.stands.rest.part a d.stands.rest.rest.tree h
-      high s b m a j (inr d) h = tall.tall_if_body room (place i) x b a d.tree h
+      high : (s : Text) (b : StmtTree) (m : ℕ) (a : StmtTree) (j : ℕ) → TailRel i x b s a m j → (at : Span) → StmtHasNode (suc room) at b → TallStmt at a
+      high s b m a j (inl d) at h = tall.tall_ifelse_body room (place i) x b d.stands.rest.part a d.stands.rest.rest.tree h
+      high s b m a j (inr d) at h = tall.tall_if_body room (place i) x b a d.tree h
 
       tails : (s : Text) (b : StmtTree) (m : ℕ) (d : Bool) → dangles b ≡ d → NoElse b (terminal (s m)) → r.choice_tail place most room nested i x b s m ≡ checked d i x b s m
       tails s b m true e h = ap (λ (y : Bool). cond y (sign t.Else (nested p.Statement >>= λ c. pure (stmt.IfElse (place i) x b c)) s m) (Found (stmt.If (place i) x b) m)) (h e)
@@ -257,21 +255,21 @@ module _ (place : ℕ → Span) (most : ℕ) (given : Given place most) (room : 
           → and_then (nested p.Statement s m) (λ b j. r.choice_tail place most room nested i x b s j) ≡ and_then (nested p.Statement s m) (λ b j. checked (dangles b) i x b s j)
       same s m (Found b j) e = ap (λ (q : Answer StmtTree). and_then q (λ b j. r.choice_tail place most room nested i x b s j)) e ∙ (tails s b j (dangles b) refl (greedy s m b j e) ∙ sym (ap (λ (q : Answer StmtTree). and_then q (λ b j. checked (dangles b) i x b s j)) e))
       same s m (Wrong j) e = ap (λ (q : Answer StmtTree). and_then q (λ b j. r.choice_tail place most room nested i x b s j)) e ∙ sym (ap (λ (q : Answer StmtTree). and_then q (λ b j. checked (dangles b) i x b s j)) e)
-      same s m (Over j) e = ap (λ (q : Answer StmtTree). and_then q (λ b j. r.choice_tail place most room nested i x b s j)) e ∙ sym (ap (λ (q : Answer StmtTree). and_then q (λ b j. checked (dangles b) i x b s j)) e)
+      same s m (Over j at) e = ap (λ (q : Answer StmtTree). and_then q (λ b j. r.choice_tail place most room nested i x b s j)) e ∙ sym (ap (λ (q : Answer StmtTree). and_then q (λ b j. checked (dangles b) i x b s j)) e)
 
   abbrev pub ChoiceRel : ℕ → Rel StmtTree
   ChoiceRel i = Word t.If (λ _. InParens (λ x. Then BodyRel (λ b. TailRel i x b)))
 
-  test_high : (i : ℕ) (x : ExprTree) (s : Text) (a : StmtTree) (m j : ℕ) → Then BodyRel (λ b. TailRel i x b) s a m j → room < height_of x → TallStmt a
-  test_high i x s a m j d h = of d.part d.rest
+  test_high : (i : ℕ) (x : ExprTree) (s : Text) (a : StmtTree) (m j : ℕ) → Then BodyRel (λ b. TailRel i x b) s a m j → (at : Span) → HasNode (suc room) at x → TallStmt at a
+  test_high i x s a m j d at h = of d.part d.rest
     where
-      of : (b : StmtTree) → TailRel i x b s a d.at j → TallStmt a
+      of : (b : StmtTree) → TailRel i x b s a d.at j → TallStmt at a
       of b (inl c) = tall.tall_ifelse_test room (place i) x b c.stands.rest.part a c.stands.rest.rest.tree h
       of b (inr c) = tall.tall_if_test room (place i) x b a c.tree h
 
   choice_laws : (i : ℕ) → Laws most (r.choice place most room nested i) (ChoiceRel i) AfterStatement TallStmt
   unfolding r.choice
-  choice_laws i = tok t.If refl (λ _. in_parens_laws (λ x. nested p.Statement >>= r.choice_tail place most room nested i x) (λ x. Then BodyRel (λ b. TailRel i x b)) AfterStatement (λ x. branch_laws i x) (λ x s a m j d h. test_high i x s a m j d h))
+  choice_laws i = tok t.If refl (λ _. in_parens_laws (λ x. nested p.Statement >>= r.choice_tail place most room nested i x) (λ x. Then BodyRel (λ b. TailRel i x b)) AfterStatement (λ x. branch_laws i x) (λ x s a m j d at h. test_high i x s a m j d at h))
 
   to_choice : (s : Text) (a : StmtTree) (i j : ℕ) → ChoiceRel i s a i j → Statement place s a i j
   to_choice s a i j d = of d.rest.rest.rest.rest.rest
@@ -289,8 +287,8 @@ module _ (place : ℕ → Span) (most : ℕ) (given : Given place most) (room : 
   pub while_laws : (i : ℕ) → Laws most (r.while_loop place most room nested i) (WhileRel i) AfterStatement TallStmt
   unfolding r.while_loop
   while_laws i = tok t.While refl (λ _. in_parens_laws (λ x. nested p.Statement >>= λ b. pure (stmt.While (place i) x b)) (λ x. Then BodyRel (λ b. Same (stmt.While (place i) x b))) AfterStatement
-      (λ x. ended_laws (stmt.While (place i) x) (λ b. Begins.while_dangles (place i) x b) (λ b a e h. tall.tall_while_body room (place i) x b a e h))
-      (λ x s a m j d h. tall.tall_while_test room (place i) x d.part a d.rest.tree h))
+      (λ x. ended_laws (stmt.While (place i) x) (λ b. Begins.while_dangles (place i) x b) (λ b a e at h. tall.tall_while_body room (place i) x b a e h))
+      (λ x s a m j d at h. tall.tall_while_test room (place i) x d.part a d.rest.tree h))
 
   pub to_while : (s : Text) (a : StmtTree) (i j : ℕ) → WhileRel i s a i j → Statement place s a i j
   to_while s a i j d = g.while d.kind d.rest.kind d.rest.rest.first d.rest.rest.rest.kind
@@ -307,9 +305,9 @@ module _ (place : ℕ → Span) (most : ℕ) (given : Given place most) (room : 
   unfolding r.do_loop
   do_laws i = tok t.Do refl (λ _. seq body_laws (λ b. tok t.While refl (λ _. in_parens_laws (λ x. sign t.Semicolon (pure (stmt.Do (place i) b x))) (λ x. Word t.Semicolon (λ _. Same (stmt.Do (place i) b x))) AfterStatement
       (λ x. tok t.Semicolon refl (λ _. pure_laws most (stmt.Do (place i) b x) AfterStatement TallStmt))
-      (λ x s a m j d h. tall.tall_do_test room (place i) b x a d.rest.tree h)))
+      (λ x s a m j d at h. tall.tall_do_test room (place i) b x a d.rest.tree h)))
       (λ s b m a j d last. in_block b _ (none_of no_follow _ t.While d.kind while_follow))
-      (λ s b m a j d h. tall.tall_do_body room (place i) b d.rest.rest.part a d.rest.rest.rest.rest.rest.tree h))
+      (λ s b m a j d at h. tall.tall_do_body room (place i) b d.rest.rest.part a d.rest.rest.rest.rest.rest.tree h))
 
   pub to_do : (s : Text) (a : StmtTree) (i j : ℕ) → DoRel i s a i j → Statement place s a i j
   to_do s a i j d = let w = d.rest.rest in
@@ -370,7 +368,7 @@ module _ (place : ℕ → Span) (most : ℕ) (given : Given place most) (room : 
 
   member_step_laws : (b : List StmtTree) → Laws most (r.next_member place most room nested b) (MemberStep b) InBlock TallList
   unfolding r.next_member
-  member_step_laws b = seq (u p.Member) (λ c. pure_laws most (b ++ c ∷ []) InBlock TallList) (λ s c m a j d last. in_members s c (b ++ c ∷ []) a m j d last) (λ s c m a j d h. tall.tall_end stmt_height room b c a d.tree h)
+  member_step_laws b = seq (u p.Member) (λ c. pure_laws most (b ++ c ∷ []) InBlock TallList) (λ s c m a j d last. in_members s c (b ++ c ∷ []) a m j d last) (λ s c m a j d at h. tall.tall_end stmt_nodes_at room b c a d.tree h)
 
   members_laws : Laws most (r.members place most room nested) (λ s a i j. Members place s a i j) (Before t.RightBrace) TallList
   unfolding r.members
@@ -378,12 +376,12 @@ module _ (place : ℕ → Span) (most : ℕ) (given : Given place most) (room : 
       (alt (is t.RightBrace) (pure_laws most [] (Before t.RightBrace) TallList)
       (renamed SomeMembers (Before t.RightBrace)
       (rep_by {Q = MemberStep} {E = InBlock} inside
-      (seq (u p.Label) (λ c. pure_laws most (c ∷ []) InBlock TallList) (λ s c m a j d last. tt) (λ s c m a j d h. tall.tall_one stmt_height room c a d.tree h))
+      (seq (u p.Label) (λ c. pure_laws most (c ∷ []) InBlock TallList) (λ s c m a j d last. tt) (λ s c m a j d at h. tall.tall_one stmt_nodes_at room c a d.tree h))
       member_step_laws
       (λ s x a i j d. is_inside _ (member_first _ (member_begins place most given s d.first)).0)
       (λ s x a i j d. let h = member_forward place most given s d.first in let e = d.rest.at in omega arith)
       (λ s x a i j d. (member_first _ (member_begins place most given s d.first)).1.0)
-      (λ s x a i j d h. tall.tall_before stmt_height room x d.part a d.rest.tree h))
+      (λ s x a i j d at h. tall.tall_before stmt_nodes_at room x d.part a d.rest.tree h))
       (λ s a i j d. d) (λ s a i j d. d) (λ a x e. (none_of no_follow x t.RightBrace e brace_follow, ap inside e ∙ brace_inside)))
       (λ s a i j d last. is_kind _ _ (same_after (λ y. y ≡ t.RightBrace) s [] a i j d last))
       (λ s a i j d last. label_no_brace s d.first.first))
@@ -398,12 +396,12 @@ module _ (place : ℕ → Span) (most : ℕ) (given : Given place most) (room : 
   switched_laws : (i : ℕ) (x : ExprTree) → Laws most (r.switched place most room nested i x) (Switched i x) AfterStatement TallStmt
   unfolding r.switched
   switched_laws i x = tok t.LeftBrace refl (λ _. seq members_laws (λ ms. tok t.RightBrace refl (λ _. pure_laws most (stmt.Switch (place i) x ms) AfterStatement TallStmt)) (λ s ms m a j d last. d.kind)
-      (λ s ms m a j d h. tall.tall_switch_members room (place i) x ms a d.rest.tree h))
+      (λ s ms m a j d at h. tall.tall_switch_members room (place i) x ms a d.rest.tree h))
 
   switch_laws : (i : ℕ) → Laws most (r.switch place most room nested i) (SwitchRel i) AfterStatement TallStmt
   unfolding r.switch
   switch_laws i = tok t.Switch refl (λ _. in_parens_laws (r.switched place most room nested i) (Switched i) AfterStatement (switched_laws i)
-      (λ x s a m j d h. tall.tall_switch_value room (place i) x d.rest.part a d.rest.rest.rest.tree h))
+      (λ x s a m j d at h. tall.tall_switch_value room (place i) x d.rest.part a d.rest.rest.rest.tree h))
 
   to_switch : (s : Text) (a : StmtTree) (i j : ℕ) → SwitchRel i s a i j → Statement place s a i j
   to_switch s a i j d = let w = d.rest.rest.rest.rest in g.switch d.kind d.rest.kind d.rest.rest.first d.rest.rest.rest.kind w.kind w.rest.first w.rest.rest.kind w.rest.rest.rest.tree w.rest.rest.rest.at
@@ -445,7 +443,7 @@ module _ (place : ℕ → Span) (most : ℕ) (given : Given place most) (room : 
   jump_laws : (i : ℕ) → Laws most (r.jumped place most room nested i) (JumpRel i) AfterStatement TallStmt
   unfolding r.jumped
   jump_laws i = op {Q = λ v. Then (λ s a i j. MaybeName place s a i j) (λ l. Word t.Semicolon (λ _. Same (jump (terminal v) (place i) l)))} (among jumps) t.Break refl jump_facts.0 jump_token
-      (λ v. seq (maybe_name_laws place most) (λ l. tok t.Semicolon refl (λ _. pure_laws most (jump (terminal v) (place i) l) AfterStatement TallStmt)) (λ s l m a j d last. is_not _ t.Semicolon t.Word d.kind jump_facts.2) (λ s l m a j d h. absurd h))
+      (λ v. seq (maybe_name_laws place most) (λ l. tok t.Semicolon refl (λ _. pure_laws most (jump (terminal v) (place i) l) AfterStatement TallStmt)) (λ s l m a j d last. is_not _ t.Semicolon t.Word d.kind jump_facts.2) (λ s l m a j d at h. absurd h))
 
   to_jump : (s : Text) (a : StmtTree) (i j : ℕ) → JumpRel i s a i j → Statement place s a i j
   to_jump s a i j d = g.jump_to d.kind d.rest.first d.rest.rest.kind d.rest.rest.rest.tree d.rest.rest.rest.at
@@ -456,7 +454,7 @@ module _ (place : ℕ → Span) (most : ℕ) (given : Given place most) (room : 
   return_laws : (i : ℕ) → Laws most (r.returned place most room nested i) (ReturnRel i) AfterStatement TallStmt
   unfolding r.returned
   return_laws i = tok t.Return refl (λ _. seq (maybe_value_laws place most given room) (λ x. tok t.Semicolon refl (λ _. pure_laws most (stmt.Return (place i) x) AfterStatement TallStmt)) (λ s x m a j d last. d.kind)
-      (λ s x m a j d h. tall.tall_return_value room (place i) x a d.rest.tree h))
+      (λ s x m a j d at h. tall.tall_return_value room (place i) x a d.rest.tree h))
 
   abbrev ThrowRel : ℕ → Rel StmtTree
   ThrowRel i = Word t.Throw (λ _. Then (λ s a i j. Expression place s a i j) (λ x. Word t.Semicolon (λ _. Same (stmt.Throw (place i) x))))
@@ -464,7 +462,7 @@ module _ (place : ℕ → Span) (most : ℕ) (given : Given place most) (room : 
   throw_laws : (i : ℕ) → Laws most (r.thrown place most room nested i) (ThrowRel i) AfterStatement TallStmt
   unfolding r.thrown
   throw_laws i = tok t.Throw refl (λ _. seq (value_laws place most given room) (λ x. tok t.Semicolon refl (λ _. pure_laws most (stmt.Throw (place i) x) AfterStatement TallStmt)) (λ s x m a j d last. value_ends place most given room x _ t.Semicolon d.kind sign_facts.3)
-      (λ s x m a j d h. tall.tall_throw_value room (place i) x a d.rest.tree h))
+      (λ s x m a j d at h. tall.tall_throw_value room (place i) x a d.rest.tree h))
 
   abbrev pub LeaveRel : ℕ → Rel StmtTree
   LeaveRel i = Either (JumpRel i) (Either (ReturnRel i) (ThrowRel i))
@@ -518,11 +516,11 @@ module _ (place : ℕ → Span) (most : ℕ) (given : Given place most) (room : 
   unfolding r.catches r.next_catch
   catches_laws = renamed (λ s a i j. Catches place s a i j) NoCatch
       (rep {Q = CatchStep} {E = Any} (is t.Catch) (pure_laws most [] Any TallList)
-      (λ b. seq (u p.Catch) (λ c. pure_laws most (b ++ c ∷ []) Any TallList) (λ s c m a j d last. tt) (λ s c m a j d h. tall.tall_end stmt_height room b c a d.tree h))
+      (λ b. seq (u p.Catch) (λ c. pure_laws most (b ++ c ∷ []) Any TallList) (λ s c m a j d last. tt) (λ s c m a j d at h. tall.tall_end stmt_nodes_at room b c a d.tree h))
       (λ s x a i j d. is_kind _ _ (catch_begins s d.first))
       (λ s x a i j d. let h = catch_forward place most given s d.first in let e = d.rest.at in omega arith)
       (λ a x e. tt)
-      (λ s x a i j d h. tall.tall_before stmt_height room x d.part a d.rest.tree h))
+      (λ s x a i j d at h. tall.tall_before stmt_nodes_at room x d.part a d.rest.tree h))
       to_catches (λ s a i j d. from_catches s d) (λ a x e. (tt, e))
 
   abbrev FinallyRel : ℕ → StmtTree → List StmtTree → Rel StmtTree
@@ -531,7 +529,7 @@ module _ (place : ℕ → Span) (most : ℕ) (given : Given place most) (room : 
   finally_laws : (i : ℕ) (b : StmtTree) (cs : List StmtTree) → Laws most (r.finally place most room nested i b cs) (FinallyRel i b cs) AfterStatement TallStmt
   unfolding r.finally
   finally_laws i b cs = tok t.Finally refl (λ _. seq (u p.Block) (λ f. pure_laws most (stmt.TryFinally (place i) b cs f) AfterStatement TallStmt) (λ s f m a j d last. tt)
-      (λ s f m a j d h. tall.tall_tryfinally_finally room (place i) b cs f a d.tree h))
+      (λ s f m a j d at h. tall.tall_tryfinally_finally room (place i) b cs f a d.tree h))
 
   abbrev TryTail : ℕ → StmtTree → List StmtTree → Rel StmtTree
   TryTail i b cs = Either (FinallyRel i b cs) (Guard (cs ≢ []) (Same (stmt.Try (place i) b cs)))
@@ -568,21 +566,21 @@ module _ (place : ℕ → Span) (most : ℕ) (given : Given place most) (room : 
   tail_no_catch i b s cs m a j (inl d) last = is_not _ t.Finally t.Catch d.kind finally_no_catch
   tail_no_catch i b s cs m a j (inr d) last = (handler_facts _ (subst (λ (n : ℕ). among handlers (terminal (s n)) ≡ false) d.stands.at last.no_handler)).0
 
-  catches_high : (i : ℕ) (b : StmtTree) (s : Text) (cs : List StmtTree) (m : ℕ) (a : StmtTree) (j : ℕ) → TryTail i b cs s a m j → room < stmts_height cs → TallStmt a
-  catches_high i b s cs m a j (inl d) h = tall.tall_tryfinally_catches room (place i) b cs d.rest.part a d.rest.rest.tree h
-  catches_high i b s cs m a j (inr d) h = tall.tall_try_catches room (place i) b cs a d.stands.tree h
+  catches_high : (i : ℕ) (b : StmtTree) (s : Text) (cs : List StmtTree) (m : ℕ) (a : StmtTree) (j : ℕ) → TryTail i b cs s a m j → (at : Span) → SomeStmtHasNode (suc room) at cs → TallStmt at a
+  catches_high i b s cs m a j (inl d) at h = tall.tall_tryfinally_catches room (place i) b cs d.rest.part a d.rest.rest.tree h
+  catches_high i b s cs m a j (inr d) at h = tall.tall_try_catches room (place i) b cs a d.stands.tree h
 
-  tried_high : (i : ℕ) (b : StmtTree) (s : Text) (cs : List StmtTree) (m : ℕ) (a : StmtTree) (j : ℕ) → TryTail i b cs s a m j → room < stmt_height b → TallStmt a
-  tried_high i b s cs m a j (inl d) h = tall.tall_tryfinally_body room (place i) b cs d.rest.part a d.rest.rest.tree h
-  tried_high i b s cs m a j (inr d) h = tall.tall_try_body room (place i) b cs a d.stands.tree h
+  tried_high : (i : ℕ) (b : StmtTree) (s : Text) (cs : List StmtTree) (m : ℕ) (a : StmtTree) (j : ℕ) → TryTail i b cs s a m j → (at : Span) → StmtHasNode (suc room) at b → TallStmt at a
+  tried_high i b s cs m a j (inl d) at h = tall.tall_tryfinally_body room (place i) b cs d.rest.part a d.rest.rest.tree h
+  tried_high i b s cs m a j (inr d) at h = tall.tall_try_body room (place i) b cs a d.stands.tree h
 
   abbrev TryRel : ℕ → Rel StmtTree
   TryRel i = Word t.Try (λ _. Then BlockRel (TryRest i))
 
   try_laws : (i : ℕ) → Laws most (r.tried place most room nested i) (TryRel i) AfterStatement TallStmt
   unfolding r.tried
-  try_laws i = tok t.Try refl (λ _. seq (u p.Block) (λ b. seq catches_laws (λ cs. try_tail_laws i b cs) (λ s cs m a j d last. tail_no_catch i b s cs m a j d last) (λ s cs m a j d h. catches_high i b s cs m a j d h))
-      (λ s b m a j d last. tt) (λ s b m a j d h. tried_high i b s d.part d.at a j d.rest h))
+  try_laws i = tok t.Try refl (λ _. seq (u p.Block) (λ b. seq catches_laws (λ cs. try_tail_laws i b cs) (λ s cs m a j d last. tail_no_catch i b s cs m a j d last) (λ s cs m a j d at h. catches_high i b s cs m a j d at h))
+      (λ s b m a j d last. tt) (λ s b m a j d at h. tried_high i b s d.part d.at a j d.rest at h))
 
   to_try : (s : Text) (a : StmtTree) (i j : ℕ) → TryRel i s a i j → Statement place s a i j
   to_try s a i j d = of d.rest.rest.part d.rest.rest.at d.rest.rest.first d.rest.rest.rest
@@ -604,18 +602,18 @@ module _ (place : ℕ → Span) (most : ℕ) (given : Given place most) (room : 
 
   class_rest : (i : ℕ) (x : NamedPlace) → Laws most (sign t.Dot (sign t.Class (sign t.RightParen (nested p.Block >>= λ b. pure (stmt.SynchronizedClass (place i) x b))))) (Word t.Dot (λ _. Word t.Class (λ _. Word t.RightParen (λ _. Then BlockRel (λ b. Same (stmt.SynchronizedClass (place i) x b)))))) AfterStatement TallStmt
   class_rest i x = tok t.Dot refl (λ _. tok t.Class refl (λ _. tok t.RightParen refl (λ _. seq (u p.Block) (λ b. pure_laws most (stmt.SynchronizedClass (place i) x b) AfterStatement TallStmt) (λ s b m a j d last. tt)
-      (λ s b m a j d h. tall.tall_synchronizedclass_body room (place i) x b a d.tree h))))
+      (λ s b m a j d at h. tall.tall_synchronizedclass_body room (place i) x b a d.tree h))))
 
   class_laws : (i : ℕ) → Laws most (r.class_lock place most room nested i) (ClassLock i) AfterStatement TallStmt
   unfolding r.class_lock
-  class_laws i = seq (name_laws place most Any Never) (class_rest i) (λ s x m a j d last. tt) (λ s x m a j d h. absurd h)
+  class_laws i = seq (name_laws place most Any Never) (class_rest i) (λ s x m a j d last. tt) (λ s x m a j d at h. absurd h)
 
   object_laws : (i : ℕ) → Laws most (r.object_lock place most room nested i) (ObjectLock i) AfterStatement TallStmt
   unfolding r.object_lock
   object_laws i = seq (value_laws place most given room) (λ x. tok t.RightParen refl (λ _. seq (u p.Block) (λ b. pure_laws most (stmt.Synchronized (place i) x b) AfterStatement TallStmt) (λ s b m a j d last. tt)
-      (λ s b m a j d h. tall.tall_synchronized_body room (place i) x b a d.tree h)))
+      (λ s b m a j d at h. tall.tall_synchronized_body room (place i) x b a d.tree h)))
       (λ s x m a j d last. value_ends place most given room x _ t.RightParen d.kind sign_facts.2)
-      (λ s x m a j d h. tall.tall_synchronized_lock room (place i) x d.rest.part a d.rest.rest.tree h)
+      (λ s x m a j d at h. tall.tall_synchronized_lock room (place i) x d.rest.part a d.rest.rest.tree h)
 
   -- a name in place of a lock is read
   class_name : (s : Text) (m : ℕ) → same_terminal (terminal (s m)) t.Word ≡ true → r.name_at place most s m ≡ Found (record { at = place m; name = (s m).text }) (suc m)
@@ -630,19 +628,19 @@ module _ (place : ℕ → Span) (most : ℕ) (given : Given place most) (room : 
       let x : NamedPlace = record { at = place m; name = (s m).text } in
       stop_found (r.name_at place most s m) (λ x k. sign t.Dot (sign t.Class (sign t.RightParen (nested p.Block >>= λ b. pure (stmt.SynchronizedClass (place i) x b)))) s k) x (suc m) n (class_name s m w)
       (stop_word t.Dot (λ _. sign t.Class (sign t.RightParen (nested p.Block >>= λ b. pure (stmt.SynchronizedClass (place i) x b)))) s (suc m) n d
-      (let h = (tok {E = AfterStatement} t.Class refl (λ _. tok t.RightParen refl (λ _. seq (u p.Block) (λ b. pure_laws most (stmt.SynchronizedClass (place i) x b) AfterStatement TallStmt) (λ s b m a j d last. tt)
-      (λ s b m a j d h. tall.tall_synchronizedclass_body room (place i) x b a d.tree h)))).onward s (suc (suc m)) in omega arith))
+      (let h = forth (tok {E = AfterStatement} t.Class refl (λ _. tok t.RightParen refl (λ _. seq (u p.Block) (λ b. pure_laws most (stmt.SynchronizedClass (place i) x b) AfterStatement TallStmt) (λ s b m a j d last. tt)
+      (λ s b m a j d at h. tall.tall_synchronizedclass_body room (place i) x b a d.tree h)))) s (suc (suc m)) in omega arith))
 
   object_stop : (i : ℕ) (s : Text) (m n : ℕ) → n ≤ stop (r.value place most room s m) → n ≤ stop (r.object_lock place most room nested i s m)
   unfolding r.object_lock
   object_stop i s m n h =
       let k = stop_then (r.value place most room s m) (λ x k. sign t.RightParen (nested p.Block >>= λ b. pure (stmt.Synchronized (place i) x b)) s k)
-      (λ x k. (tok {E = AfterStatement} t.RightParen refl (λ _. seq (u p.Block) (λ b. pure_laws most (stmt.Synchronized (place i) x b) AfterStatement TallStmt) (λ s b m a j d last. tt)
-      (λ s b m a j d h. tall.tall_synchronized_body room (place i) x b a d.tree h))).onward s k) in
+      (λ x k. forth (tok {E = AfterStatement} t.RightParen refl (λ _. seq (u p.Block) (λ b. pure_laws most (stmt.Synchronized (place i) x b) AfterStatement TallStmt) (λ s b m a j d last. tt)
+      (λ s b m a j d at h. tall.tall_synchronized_body room (place i) x b a d.tree h))) s k) in
       omega arith
 
   class_seen : (i : ℕ) (s v : Text) (m : ℕ) → ((x : ℕ) → x ≤ stop (ahead is_class_lock (r.class_lock place most room nested i) (r.object_lock place most room nested i) s m) → v x ≡ s x) → is_class_lock v m ≡ is_class_lock s m
-  class_seen i s v m same = class_depends s v m (same m (reach m (λ e. omega arith) (λ e. (object_laws i).onward s m)))
+  class_seen i s v m same = class_depends s v m (same m (reach m (λ e. omega arith) (λ e. forth (object_laws i) s m)))
       (λ w. same (suc m) (reach (suc m) (λ e. omega arith) (λ e. object_stop i s m (suc m) (value_past place most given s m w room))))
       (λ w d. same (suc (suc m)) (reach (suc (suc m)) (λ e. omega arith) (λ e. object_stop i s m (suc (suc m)) (value_past_dot place most given s m w d room))))
     where
@@ -713,10 +711,10 @@ module _ (place : ℕ → Span) (most : ℕ) (given : Given place most) (room : 
   unfolding r.catch
   catch_laws = renamed (λ s a i j. Catch place s a i j) Any
       (start {D = CatchRel} (λ i. tok t.Catch refl (λ _. tok t.LeftParen refl (λ _. seq (final_laws most) (λ f. seq given.type_laws (λ ty. seq (name_laws place most Any Never)
-      (λ x. tok t.RightParen refl (λ _. seq (u p.Block) (λ b. pure_laws most (stmt.Catch (place i) f (ty ∷ []) x b) Any TallStmt) (λ s b m a j d last. tt) (λ s b m a j d h. tall.tall_catch_body room (place i) f (ty ∷ []) x b a d.tree h)))
-      (λ s x m a j d last. tt) (λ s x m a j d h. absurd h))
-      (λ s ty m a j d last. name_no_bracket s d.part m d.at d.first) (λ s ty m a j d h. absurd h))
-      (λ s f m a j d last. type_no_final place s d.first) (λ s f m a j d h. absurd h)))))
+      (λ x. tok t.RightParen refl (λ _. seq (u p.Block) (λ b. pure_laws most (stmt.Catch (place i) f (ty ∷ []) x b) Any TallStmt) (λ s b m a j d last. tt) (λ s b m a j d at h. tall.tall_catch_body room (place i) f (ty ∷ []) x b a d.tree h)))
+      (λ s x m a j d last. tt) (λ s x m a j d at h. absurd h))
+      (λ s ty m a j d last. name_no_bracket s d.part m d.at d.first) (λ s ty m a j d at h. absurd h))
+      (λ s f m a j d last. type_no_final place s d.first) (λ s f m a j d at h. absurd h)))))
       to_catch from_catch (λ a x e. e)
     where
       to_catch : (s : Text) (a : StmtTree) (i j : ℕ) → CatchRel i s a i j → Catch place s a i j

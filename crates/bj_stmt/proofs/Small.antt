@@ -1,7 +1,8 @@
 -- The laws of the small parts of statements.
 use Rattle.std.proofs.Common.{◌≡◌, ℕ, zero, suc, ◌+◌, ◌<◌, ◌≤◌, ◌⊎◌, inl, inr, Bool, true, false, cond, refl, sym, ap, ◌∙◌, subst, arith, le_refl, List, [], ◌∷◌, ◌++◌, Option, Some, None, map}
-use Rattle.std.specs.Prelude.{nat_lt, max}
-use Rattle.std.proofs.lemmas.Bool.{ltb-true, both_ways}
+use Rattle.std.specs.Prelude.{◌-◌, Contains}
+use Rattle.std.proofs.lemmas.Bool.{both_ways}
+use Rattle.std.proofs.lemmas.List.Elements.{Contains-append_left, Contains-append_right}
 use Rattle.bj_core.specs.declared.types.Span.{Span}
 use Rattle.bj_lex.specs.declared.token.Token.{Token}
 use Rattle.bj_tree.specs.declared.types.TypeTree.{TypeTree}
@@ -11,28 +12,26 @@ use Rattle.bj_tree.specs.declared.expr.ExprTree.TheVariants as tree
 use Rattle.bj_tree.specs.declared.stmt.VariableTree.{VariableTree}
 use Rattle.bj_tree.specs.declared.stmt.StmtTree.{StmtTree}
 use Rattle.bj_tree.specs.declared.stmt.StmtTree.TheVariants as stmt
-use Rattle.bj_tree.specs.declared.expr.AssignOp.{AssignOp}
-use Rattle.bj_tree.specs.declared.expr.ExprTree.TheOpen.{ExprTree-F}
-use Rattle.bj_tree.specs.declared.expr.ExprTree.TheFolds.{fold-roll-ExprTree}
-use Rattle.bj_tree.specs.Size.{height_form, height_of}
 use Rattle.bj_grammar.specs.declared.terminal.Terminal.{Terminal}
 use Rattle.bj_grammar.specs.declared.terminal.Terminal.TheVariants as t
 use Rattle.bj_grammar.specs.Terminal.{terminal, same_terminal, among}
-use Rattle.bj_grammar.specs.Reader.{Text, Answer, Found, Parser, ◌>>=◌, pure, over, here, operator, word, sign, choose, loop}
+use Rattle.bj_grammar.specs.Reader.{Text, Answer, Found, Parser, ◌>>=◌, pure, over, unless_deep, here, operator, word, sign, choose, loop}
 use Rattle.bj_grammar.proofs.Terminals.{is_token}
 use Rattle.bj_grammar.proofs.Laws.{Rel, Laws, Then, Same, Word, Either, Steps, done, same_laws, pure_laws, over_laws, steps_end, steps_fold, is_kind, kind_is, seq, alt, tok, op, Operator, start, renamed, taller, rep}
 use Rattle.bj_expr.specs.declared.part.Part.TheVariants as part
 use Rattle.bj_expr.specs.Grammar as ge
 use Rattle.bj_expr.specs.Grammar.{assigns, assign_op, type_words, Dims, TypeAt, Expression, Unary, Initializer}
-use Rattle.bj_expr.specs.Reading.{is, within, dims, type_at, limited}
+use Rattle.bj_expr.specs.Reading.{is, dims, type_at, limited}
+use Rattle.bj_expr.specs.Nodes.{nodes_at, HasNode, first}
+use Rattle.bj_expr.proofs.NodeForms.{assign_below}
 use Rattle.bj_expr.specs.Within.{Stands}
 use Rattle.bj_stmt.specs.Grammar as g
 use Rattle.bj_stmt.specs.Grammar.{MaybeFinal, MaybeInit, MaybeExpression, MaybeName, Variable, Variables, Declaration, StatementExpression, Evaluation, ConstructorCall, Label, is_statement, Expressions, MaybeExpressions}
 use Rattle.bj_stmt.specs.Reading as r
-use Rattle.bj_stmt.specs.Heights.{variable_height, stmt_height}
+use Rattle.bj_stmt.specs.Nodes.{variable_nodes, StmtHasNode, SomeVariableHasNode}
 use Rattle.bj_stmt.proofs.Expressions.{Given, expression_words, beginners, enders, AfterType, Never}
 use Rattle.bj_stmt.proofs.StmtTall as tall
-use Rattle.bj_stmt.proofs.StmtTall.{exprs_height, option_height, variables_height}
+use Rattle.bj_stmt.proofs.StmtTall.{SomeExprHasNode, OptionHasNode, VariableHasNode}
 use Rattle.bj_stmt.proofs.Leftmost.{each, is_not, none_of}
 
 -- ---- general steps
@@ -41,27 +40,19 @@ use Rattle.bj_stmt.proofs.Leftmost.{each, is_not, none_of}
 pub same_after : {A : Type 0} (F : Terminal → Type 0) (s : Text) (b a : A) (i j : ℕ) → Same b s a i j → F (terminal (s j)) → F (terminal (s i))
 same_after F s b a i j d last = subst (λ (n : ℕ). F (terminal (s n))) d.at last
 
-pub cond_laws : {A : Type 0} {n : ℕ} {p q : Parser A} {D : Rel A} {E : A → Terminal → Type 0} {T : A → Type 0} (b : Bool) → (b ≡ true → Laws n p D E T) → (b ≡ false → Laws n q D E T)
-    → Laws n (λ s i. cond b (p s i) (q s i)) D E T
-cond_laws true u v = u refl
-cond_laws false u v = v refl
-
-pub pick_laws : {A : Type 0} {n : ℕ} {p q : Parser A} {D : Rel A} {E : A → Terminal → Type 0} {T : A → Type 0} (b : Bool) → (b ≡ true → Laws n p D E T) → (b ≡ false → Laws n q D E T) → Laws n (cond b p q) D E T
+pub pick_laws : {A : Type 0} {n : ℕ} {p q : Parser A} {D : Rel A} {E : A → Terminal → Type 0} {T : Span → A → Type 0} (b : Bool) → (b ≡ true → Laws n p D E T) → (b ≡ false → Laws n q D E T) → Laws n (cond b p q) D E T
 pick_laws true u v = u refl
 pick_laws false u v = v refl
 
-assign_height : (at : Span) (op : AssignOp) (target value : ExprTree) → height_of (tree.Assign at op target value) ≡ suc (max (height_of target) (height_of value))
-unfolding height_of
-assign_height at op target value = ap height_of (sym (tree.rolls-Assign at op target value)) ∙ fold-roll-ExprTree ℕ height_form (ExprTree-F.Assign at op target value)
-
-pub limited_laws : (most room : ℕ) (b : ExprTree) (E : ExprTree → Terminal → Type 0) → Laws most (limited room b) (Same b) E (λ a. room < height_of a)
+-- What goes on behind an operand that has no node with so many above it. Where it has one, that node has to be too deep in what is read.
+pub limited_then : {B : Type 0} {n : ℕ} {Q : Rel B} {E : B → Terminal → Type 0} {T : Span → B → Type 0} (f : ExprTree → Parser B) (k : ℕ) (l : ExprTree) → Laws n (f l) Q E T
+    → ((at : Span) → HasNode (suc k) at l → (s : Text) (b : B) (i j : ℕ) → Q s b i j → T at b) → Laws n (limited k l >>= f) Q E T
 unfolding limited
-limited_laws most room b E = cond_laws (nat_lt room (height_of b))
-    (λ e. over_laws most (Same b) E (λ a. room < height_of a) (pure_laws most b E (λ a. room < height_of a)).shape (λ s a i j d. inl (too_high a d.tree (ltb-true _ _ e))))
-    (λ e. pure_laws most b E (λ a. room < height_of a))
+limited_then {n} {Q} {E} {T} f k l u deep = of (first (nodes_at l k)) refl
   where
-    too_high : (a : ExprTree) → a ≡ b → room < height_of b → room < height_of a
-    too_high a e h = let k = ap height_of e in omega arith
+    of : (x : Option Span) → first (nodes_at l k) ≡ x → Laws n (unless_deep x (pure l) >>= f) Q E T
+    of None e = u
+    of (Some at) e = over_laws n (λ _. at) Q E T u.shape (λ s b i j d. inl (deep at (k, le_refl (suc k), tall.of_front (nodes_at l k) at e) s b i j d))
 
 pub type_no_final : (place : ℕ → Span) (s : Text) {a : TypeTree} {i j : ℕ} → TypeAt place s a i j → same_terminal (terminal (s i)) t.Final ≡ false
 unfolding same_terminal
@@ -128,7 +119,7 @@ module _ (place : ℕ → Span) (most : ℕ) where
   abbrev pub NameAt : ℕ → Rel NamedPlace
   NameAt m = Word t.Word (λ v. Same (record { at = place m; name = v }))
 
-  pub name_laws : (E : NamedPlace → Terminal → Type 0) (T : NamedPlace → Type 0) → Laws most (r.name_at place most) (λ s a i j. NameAt i s a i j) E T
+  pub name_laws : (E : NamedPlace → Terminal → Type 0) (T : Span → NamedPlace → Type 0) → Laws most (r.name_at place most) (λ s a i j. NameAt i s a i j) E T
   unfolding r.name_at
   name_laws E T = start {D = NameAt} (λ m. tok t.Word refl (λ v. pure_laws most (record { at = place m; name = v }) E T))
 
@@ -146,7 +137,7 @@ module _ (place : ℕ → Span) (most : ℕ) where
   pub maybe_name_laws : Laws most (r.maybe_name place most) (λ s a i j. MaybeName place s a i j) (λ _ x. same_terminal x t.Word ≡ false) Never
   unfolding r.maybe_name
   maybe_name_laws = renamed (λ s a i j. MaybeName place s a i j) (λ _ x. same_terminal x t.Word ≡ false)
-      (alt (is t.Word) (seq (name_laws Any Never) (λ x. pure_laws most (Some x) (λ _ y. same_terminal y t.Word ≡ false) Never) (λ s x m b j d last. tt) (λ s x m b j d h. h))
+      (alt (is t.Word) (seq (name_laws Any Never) (λ x. pure_laws most (Some x) (λ _ y. same_terminal y t.Word ≡ false) Never) (λ s x m b j d last. tt) (λ s x m b j d at h. h))
       (pure_laws most None (λ _ y. same_terminal y t.Word ≡ false) Never)
       (λ s a i j d last. is_kind _ _ d.first.kind)
       (λ s a i j d last. same_after (λ y. same_terminal y t.Word ≡ false) s None a i j d last))
@@ -158,21 +149,18 @@ module _ (place : ℕ → Span) (most : ℕ) (given : Given place most) (room : 
   abbrev pub ExprRel : Rel ExprTree
   ExprRel = λ s a i j. Expression place s a i j
 
-  pub value_laws : Laws most (r.value place most room) ExprRel (given.After part.Expression) (λ a. room < height_of a)
+  pub value_laws : Laws most (r.value place most room) ExprRel (given.After part.Expression) (HasNode (suc room))
   unfolding r.value
   value_laws = given.part_laws room part.Expression
 
   pub value_ends : (a : ExprTree) (x k : Terminal) → x ≡ k → among enders k ≡ true → given.After part.Expression a x
   value_ends a x k e h = given.ends part.Expression a x (in_enders x k e h)
 
-  abbrev TallOption : Option ExprTree → Type 0
-  TallOption a = room < option_height a
+  abbrev TallOption : Span → Option ExprTree → Type 0
+  TallOption = OptionHasNode (suc room)
 
-  abbrev TallExprs : List ExprTree → Type 0
-  TallExprs a = room < exprs_height a
-
-  some_tall : (x : ExprTree) (b : Option ExprTree) → b ≡ Some x → room < height_of x → room < option_height b
-  some_tall x b e h = let k = ap option_height e in omega arith
+  abbrev TallExprs : Span → List ExprTree → Type 0
+  TallExprs = SomeExprHasNode (suc room)
 
   to_maybe : (s : Text) (a : Option ExprTree) (i j : ℕ) → Either (Same None) (Then ExprRel (λ x. Same (Some x))) s a i j → MaybeExpression place s a i j
   to_maybe s a i j (inl d) = g.no_expression d.tree d.at
@@ -191,7 +179,7 @@ module _ (place : ℕ → Span) (most : ℕ) (given : Given place most) (room : 
       (alt (is t.Semicolon) (pure_laws most None (Before t.Semicolon) TallOption)
       (seq value_laws (λ x. pure_laws most (Some x) (Before t.Semicolon) TallOption)
       (λ s x m b j d last. value_ends x _ t.Semicolon (same_after (λ y. y ≡ t.Semicolon) s (Some x) b m j d last) sign_facts.3)
-      (λ s x m b j d h. some_tall x b d.tree h))
+      (λ s x m b j d at h. tall.tall_some room x b d.tree h))
       (λ s a i j d last. is_kind _ _ (same_after (λ y. y ≡ t.Semicolon) s None a i j d last))
       (λ s a i j d last. (begins_value s d.part i d.at d.first).0))
       to_maybe (λ s a i j d. from_maybe s d) (λ a x e. e)
@@ -227,13 +215,13 @@ module _ (place : ℕ → Span) (most : ℕ) (given : Given place most) (room : 
   exprs_laws = renamed ExprsRel (Before t.RightParen)
       (rep {Q = Comma} {E = λ _ x. among enders x ≡ true} (is t.Comma)
       (seq value_laws (λ x. pure_laws most (x ∷ []) (λ _ y. among enders y ≡ true) TallExprs) (λ s x m b j d last. given.ends part.Expression x _ (same_after (λ y. among enders y ≡ true) s (x ∷ []) b m j d last))
-      (λ s x m b j d h. tall.tall_one height_of room x b d.tree h))
+      (λ s x m b j d at h. tall.tall_one nodes_at room x b d.tree h))
       (λ b. tok t.Comma refl (λ _. seq value_laws (λ x. pure_laws most (b ++ x ∷ []) (λ _ y. among enders y ≡ true) TallExprs)
-      (λ s x m c j d last. given.ends part.Expression x _ (same_after (λ y. among enders y ≡ true) s (b ++ x ∷ []) c m j d last)) (λ s x m c j d h. tall.tall_end height_of room b x c d.tree h)))
+      (λ s x m c j d last. given.ends part.Expression x _ (same_after (λ y. among enders y ≡ true) s (b ++ x ∷ []) c m j d last)) (λ s x m c j d at h. tall.tall_end nodes_at room b x c d.tree h)))
       (λ s x a i j d. is_kind _ _ d.kind)
       (λ s x a i j d. let h = given.part_forward part.Expression s d.rest.part (suc i) d.rest.at d.rest.first in let e = d.rest.rest.at in omega arith)
       (λ a x o. in_enders x t.Comma (kind_is x t.Comma o) sign_facts.4)
-      (λ s x a i j d h. tall.tall_before height_of room x d.rest.part a d.rest.rest.tree h))
+      (λ s x a i j d at h. tall.tall_before nodes_at room x d.rest.part a d.rest.rest.tree h))
       to_exprs (λ s a i j d. from_exprs s d) (λ a x e. (in_enders x t.RightParen e sign_facts.2, is_not x t.RightParen t.Comma e sign_facts.7))
 
   from_all : (s : Text) {a : List ExprTree} {i j : ℕ} → MaybeExpressions place s a i j → Either (Same []) ExprsRel s a i j
@@ -270,17 +258,17 @@ module _ (place : ℕ → Span) (most : ℕ) (given : Given place most) (room : 
   maybe_init_laws = renamed (λ s a i j. MaybeInit place s a i j) InList
       (alt (is t.Assign) (tok t.Assign refl (λ _. seq (given.part_laws room part.Initializer) (λ x. pure_laws most (Some x) InList TallOption)
       (λ s x m b j d last. given.ends part.Initializer x _ (list_facts _ (same_after (λ y. among list_ends y ≡ true) s (Some x) b m j d last)).0)
-      (λ s x m b j d h. some_tall x b d.tree h)))
+      (λ s x m b j d at h. tall.tall_some room x b d.tree h)))
       (pure_laws most None InList TallOption)
       (λ s a i j d last. is_kind _ _ d.kind)
       (λ s a i j d last. (list_facts _ (same_after (λ y. among list_ends y ≡ true) s None a i j d last)).1))
       to_init (λ s a i j d. from_init s d) (λ a x e. e)
 
-  abbrev TallVariable : VariableTree → Type 0
-  TallVariable a = suc room < variable_height a
+  abbrev TallVariable : Span → VariableTree → Type 0
+  TallVariable = VariableHasNode (suc (suc room))
 
-  abbrev TallVariables : List VariableTree → Type 0
-  TallVariables a = suc room < variables_height a
+  abbrev TallVariables : Span → List VariableTree → Type 0
+  TallVariables = SomeVariableHasNode (suc (suc room))
 
   abbrev pub variable_of : ℕ → List ℕ → ℕ → Option ExprTree → VariableTree
   variable_of m v d x = record { at = place m; name = v; dims = d; init = x }
@@ -289,8 +277,8 @@ module _ (place : ℕ → Span) (most : ℕ) (given : Given place most) (room : 
   abbrev pub Behind : ℕ → List ℕ → Rel VariableTree
   Behind m v = Then (λ s a i j. Dims s a i j) (λ d. Then (λ s a i j. MaybeInit place s a i j) (λ x. Same (variable_of m v d x)))
 
-  variable_tall : (m : ℕ) (v : List ℕ) (d : ℕ) (x : Option ExprTree) (a : VariableTree) → a ≡ variable_of m v d x → room < option_height x → suc room < variable_height a
-  variable_tall m v d x a e h = let k = ap variable_height e in omega arith
+  variable_tall : {p : Span} (m : ℕ) (v : List ℕ) (d : ℕ) (x : Option ExprTree) (a : VariableTree) → a ≡ variable_of m v d x → OptionHasNode (suc room) p x → VariableHasNode (suc (suc room)) p a
+  variable_tall m v d x a e h = tall.tall_variable room x (variable_of m v d x) a refl e h
 
   init_first : (s : Text) {a : Option ExprTree} {i j : ℕ} → MaybeInit place s a i j → among list_ends (terminal (s j)) ≡ true → same_terminal (terminal (s i)) t.LeftBracket ≡ false
   unfolding same_terminal
@@ -301,9 +289,9 @@ module _ (place : ℕ → Span) (most : ℕ) (given : Given place most) (room : 
   unfolding r.variable_behind
   behind_laws m v = seq given.dims_laws (λ d. seq maybe_init_laws (λ x. pure_laws most (variable_of m v d x) InList TallVariable)
       (λ s x k b j e last. same_after (λ y. among list_ends y ≡ true) s (variable_of m v d x) b k j e last)
-      (λ s x k b j e h. variable_tall m v d x b e.tree h))
+      (λ s x k b j e at h. variable_tall m v d x b e.tree h))
       (λ s d k b j e last. init_first s e.first (same_after (λ y. among list_ends y ≡ true) s (variable_of m v d e.part) b e.at j e.rest last))
-      (λ s d k b j e h. absurd h)
+      (λ s d k b j e at h. absurd h)
 
   abbrev VariableRel : Rel VariableTree
   VariableRel = λ s a i j. Variable place s a i j
@@ -334,13 +322,13 @@ module _ (place : ℕ → Span) (most : ℕ) (given : Given place most) (room : 
   firsts_laws {P = P} u = renamed (FirstBy P) (Before t.Semicolon)
       (rep {Q = CommaVariable} {E = InList} (is t.Comma)
       (seq u (λ x. pure_laws most (x ∷ []) InList TallVariables) (λ s x m b j d last. same_after (λ y. among list_ends y ≡ true) s (x ∷ []) b m j d last)
-      (λ s x m b j d h. tall.tall_one variable_height (suc room) x b d.tree h))
+      (λ s x m b j d at h. tall.tall_one variable_nodes (suc room) x b d.tree h))
       (λ b. tok t.Comma refl (λ _. seq variable_laws (λ x. pure_laws most (b ++ x ∷ []) InList TallVariables)
-      (λ s x m c j d last. same_after (λ y. among list_ends y ≡ true) s (b ++ x ∷ []) c m j d last) (λ s x m c j d h. tall.tall_end variable_height (suc room) b x c d.tree h)))
+      (λ s x m c j d last. same_after (λ y. among list_ends y ≡ true) s (b ++ x ∷ []) c m j d last) (λ s x m c j d at h. tall.tall_end variable_nodes (suc room) b x c d.tree h)))
       (λ s x a i j d. is_kind _ _ d.kind)
       (λ s x a i j d. let h = variable_forward s d.rest.first in let e = d.rest.rest.at in omega arith)
       (λ a x o. in_list x t.Comma (kind_is x t.Comma o) sign_facts.1)
-      (λ s x a i j d h. tall.tall_before variable_height (suc room) x d.rest.part a d.rest.rest.tree h))
+      (λ s x a i j d at h. tall.tall_before variable_nodes (suc room) x d.rest.part a d.rest.rest.tree h))
       (λ s a i j d. d) (λ s a i j d. d) (λ a x e. (in_list x t.Semicolon e sign_facts.0, is_not x t.Semicolon t.Comma e sign_facts.6))
 
   abbrev pub VariablesBehind : ℕ → List ℕ → Rel (List VariableTree)
@@ -378,24 +366,6 @@ module _ (place : ℕ → Span) (most : ℕ) (given : Given place most) (room : 
   unfolding r.variables
   variables_laws = renamed VariablesRel (Before t.Semicolon) (firsts_laws variable_laws) to_variables (λ s a i j d. from_variables s d) (λ a x e. e)
 
-  -- ---- declarations
-
-  abbrev DeclarationRel : Rel StmtTree
-  DeclarationRel = λ s a i j. Declaration place s a i j
-
-  abbrev Typed : ℕ → Bool → Rel StmtTree
-  Typed i f = Then (λ s a i j. TypeAt place s a i j) (λ ty. Then VariablesRel (λ vs. Same (stmt.Local (place i) f ty vs)))
-
-  abbrev Declared : ℕ → Rel StmtTree
-  Declared i = Then (λ s a i j. MaybeFinal s a i j) (Typed i)
-
-  to_declaration : (s : Text) (a : StmtTree) (i j : ℕ) → Declared i s a i j → Declaration place s a i j
-  to_declaration s a i j d = g.declaration d.first d.rest.first (subst (λ (z : ℕ). Variables place s d.rest.rest.part d.rest.at z) (sym d.rest.rest.rest.at) d.rest.rest.first) d.rest.rest.rest.tree
-
-  from_declaration : (s : Text) {a : StmtTree} {i j : ℕ} → Declaration place s a i j → Declared i s a i j
-  from_declaration s {j = j} (g.declaration {f = f} {ty = ty} {vs = vs} {m = m} {n = n} o d v e) =
-      record { part = f; at = m; first = o; rest = record { part = ty; at = n; first = d; rest = record { part = vs; at = j; first = v; rest = record { tree = e; at = refl } } } }
-
   variable_word : (s : Text) {a : VariableTree} {i j : ℕ} → Variable place s a i j → terminal (s i) ≡ t.Word
   variable_word s (g.variable o d x e) = o
 
@@ -407,31 +377,10 @@ module _ (place : ℕ → Span) (most : ℕ) (given : Given place most) (room : 
   unfolding same_terminal
   word_bracket x e = is_not x t.Word t.LeftBracket e refl
 
-  -- behind `final`
-  pub typed_laws : (i : ℕ) (f : Bool) → Laws most (type_at place most >>= λ ty. r.variables place most room >>= λ vs. pure (stmt.Local (place i) f ty vs)) (Typed i f) (Before t.Semicolon) (λ a. suc (suc room) < stmt_height a)
-  typed_laws i f = seq given.type_laws (λ ty. seq variables_laws (λ vs. pure_laws most (stmt.Local (place i) f ty vs) (Before t.Semicolon) (λ a. suc (suc room) < stmt_height a))
-      (λ s vs m b j d last. same_after (λ y. y ≡ t.Semicolon) s (stmt.Local (place i) f ty vs) b m j d last)
-      (λ s vs m b j d h. tall.tall_local_variables (suc room) (place i) f ty vs b d.tree h))
-      (λ s ty m b j d last. word_bracket _ (variables_word s d.first))
-      (λ s ty m b j d h. absurd h)
-
-  declaration_by_laws : Laws most (r.declaration_by place most room) DeclarationRel (Before t.Semicolon) (λ a. suc (suc room) < stmt_height a)
-  unfolding r.declaration_by
-  declaration_by_laws = renamed DeclarationRel (Before t.Semicolon)
-      (start {D = Declared} (λ i. seq (final_laws most) (λ f. typed_laws i f) (λ s f m b j d last. type_no_final place s d.first) (λ s f m b j d h. absurd h)))
-      to_declaration (λ s a i j d. from_declaration s d) (λ a x e. e)
-
-  some_variables : (s : Text) {a : List VariableTree} {i j : ℕ} → Variables place s a i j → 0 < variables_height a
-  some_variables s (g.first_variable {x = x} d e) = tall.tall_one variable_height 0 x _ e (omega arith)
-  some_variables s (g.next_variable {b = b} {x = x} d o y e) = tall.tall_end variable_height 0 b x _ e (omega arith)
-
-  pub declaration_high : (s : Text) {a : StmtTree} {i j : ℕ} → Declaration place s a i j → 1 < stmt_height a
-  declaration_high s {i = i} (g.declaration {f = f} {ty = ty} {vs = vs} o d v e) = tall.tall_local_variables 0 (place i) f ty vs _ e (some_variables s v)
-
   -- ---- expressions that are statements
 
-  abbrev TallExpr : ExprTree → Type 0
-  TallExpr a = room < height_of a
+  abbrev TallExpr : Span → ExprTree → Type 0
+  TallExpr = HasNode (suc room)
 
   abbrev pub assign_tree : ℕ → ExprTree → Token → ExprTree → ExprTree
   assign_tree i l v x = tree.Assign (place i) (assign_op (terminal v)) l x
@@ -455,18 +404,26 @@ module _ (place : ℕ → Span) (most : ℕ) (given : Given place most) (room : 
   unfolding same_terminal
   no_assign = each (λ x. among assigns x ≡ false) list_ends (refl, (refl, tt))
 
-  left_tall : (i : ℕ) (l : ExprTree) (v : Token) (x b : ExprTree) → b ≡ assign_tree i l v x → room < height_of l → room < height_of b
-  left_tall i l v x b e h = let z = ap height_of e in let k = assign_height (place i) (assign_op (terminal v)) l x in omega arith
+  left_tall : {p : Span} (i : ℕ) (l : ExprTree) (v : Token) (x b : ExprTree) → b ≡ assign_tree i l v x → HasNode (suc (room - 1)) p l → HasNode (suc room) p b
+  left_tall {p} i l v x b e h = subst (HasNode (suc room) p) (sym e)
+      (suc h.0, (let k = h.1 in omega arith), subst (λ (ps : List Span). Contains ps p) (sym (assign_below (place i) (assign_op (terminal v)) l x h.0)) (Contains-append_left (nodes_at l h.0) (nodes_at x h.0) p h.2))
 
-  right_tall : (i : ℕ) (l : ExprTree) (v : Token) (x b : ExprTree) → b ≡ assign_tree i l v x → room < height_of x → room < height_of b
-  right_tall i l v x b e h = let z = ap height_of e in let k = assign_height (place i) (assign_op (terminal v)) l x in omega arith
+  right_tall : {p : Span} (i : ℕ) (l : ExprTree) (v : Token) (x b : ExprTree) → b ≡ assign_tree i l v x → HasNode (suc (room - 1)) p x → HasNode (suc room) p b
+  right_tall {p} i l v x b e h = subst (HasNode (suc room) p) (sym e)
+      (suc h.0, (let k = h.1 in omega arith), subst (λ (ps : List Span). Contains ps p) (sym (assign_below (place i) (assign_op (terminal v)) l x h.0)) (Contains-append_right (nodes_at l h.0) (nodes_at x h.0) p h.2))
+
+  assigned_laws : Laws most (r.assigned place most room) ExprRel (given.After part.Expression) (HasNode (suc (room - 1)))
+  unfolding r.assigned
+  assigned_laws = given.part_laws (room - 1) part.Expression
 
   assignment_laws : (i : ℕ) (l : ExprTree) → Laws most (r.assignment place most room i l) (Assigned i l) InList TallExpr
   unfolding r.assignment
   assignment_laws i l = op {Q = λ v. Then ExprRel (λ x. Same (assign_tree i l v x))} (among assigns) t.Assign refl assign_one assign_token
-      (λ v. seq value_laws (λ x. limited_laws most room (assign_tree i l v x) InList)
+      (λ v. limited_then (λ l. r.assigned place most room >>= λ x. pure (assign_tree i l v x)) (room - 1) l
+      (seq assigned_laws (λ x. pure_laws most (assign_tree i l v x) InList TallExpr)
       (λ s x m b j d last. given.ends part.Expression x _ (list_facts _ (same_after (λ y. among list_ends y ≡ true) s (assign_tree i l v x) b m j d last)).0)
-      (λ s x m b j d h. right_tall i l v x b d.tree h))
+      (λ s x m b j d at h. right_tall i l v x b d.tree h))
+      (λ at h s b m j d. left_tall i l v d.part b d.rest.tree h))
 
   -- with the test of the tree
   pub record Evaluated (l : ExprTree) (s : Text) (a : ExprTree) (i j : ℕ) : Type 0 where
@@ -510,14 +467,14 @@ module _ (place : ℕ → Span) (most : ℕ) (given : Given place most) (room : 
   behind_unary i s l m b j (inl x) last = given.before_assign l _ x.kind
   behind_unary i s l m b j (inr y) last = given.ends part.Unary l _ (subst (λ (z : ℕ). among enders (terminal (s z)) ≡ true) y.at (list_facts _ last).0)
 
-  rest_tall : (i : ℕ) (s : Text) (l : ExprTree) (m : ℕ) (b : ExprTree) (j : ℕ) → Rest i l s b m j → room < height_of l → room < height_of b
-  rest_tall i s l m b j (inl x) h = left_tall i l (s m) x.rest.part b x.rest.rest.tree h
-  rest_tall i s l m b j (inr y) h = let k = ap height_of y.same in omega arith
+  rest_tall : {p : Span} (i : ℕ) (s : Text) (l : ExprTree) (m : ℕ) (b : ExprTree) (j : ℕ) → Rest i l s b m j → HasNode (suc room) p l → HasNode (suc room) p b
+  rest_tall i s l m b j (inl x) h = left_tall i l (s m) x.rest.part b x.rest.rest.tree (tall.fewer nodes_at (suc (room - 1)) (suc room) l (omega arith) h)
+  rest_tall {p} i s l m b j (inr y) h = subst (HasNode (suc room) p) (sym y.same) h
 
   statement_expression_laws : Laws most (r.statement_expression place most room) StatementExprRel InList TallExpr
   unfolding r.statement_expression
   statement_expression_laws = renamed StatementExprRel InList
-      (start {D = λ i. Then UnaryRel (Rest i)} (λ i. seq (given.part_laws room part.Unary) (λ l. evaluated_laws i l) (λ s l m b j d last. behind_unary i s l m b j d last) (λ s l m b j d h. rest_tall i s l m b j d h)))
+      (start {D = λ i. Then UnaryRel (Rest i)} (λ i. seq (given.part_laws room part.Unary) (λ l. evaluated_laws i l) (λ s l m b j d last. behind_unary i s l m b j d last) (λ s l m b j d at h. rest_tall i s l m b j d h)))
       to_statement_expression (λ s a i j d. from_statement_expression s d) (λ a x e. e)
 
   abbrev EvaluationRel : Rel StmtTree
@@ -532,15 +489,15 @@ module _ (place : ℕ → Span) (most : ℕ) (given : Given place most) (room : 
   from_evaluation : (s : Text) {a : StmtTree} {i j : ℕ} → Evaluation place s a i j → ValuedBy i s a i j
   from_evaluation s {j = j} (g.evaluation {x = x} d e) = record { part = x; at = j; first = d; rest = record { tree = e; at = refl } }
 
-  abbrev TallStmt : StmtTree → Type 0
-  TallStmt a = suc room < stmt_height a
+  abbrev TallStmt : Span → StmtTree → Type 0
+  TallStmt = StmtHasNode (suc (suc room))
 
   pub evaluation_laws : Laws most (r.evaluation place most room) EvaluationRel InList TallStmt
   unfolding r.evaluation
   evaluation_laws = renamed EvaluationRel InList
       (start {D = ValuedBy} (λ i. seq statement_expression_laws (λ x. pure_laws most (stmt.Expression (place i) x) InList TallStmt)
       (λ s x m b j d last. same_after (λ y. among list_ends y ≡ true) s (stmt.Expression (place i) x) b m j d last)
-      (λ s x m b j d h. tall.tall_expression_value room (place i) x b d.tree h)))
+      (λ s x m b j d at h. tall.tall_expression_value room (place i) x b d.tree h)))
       to_evaluation (λ s a i j d. from_evaluation s d) (λ a x e. e)
 
   -- ---- calls of other constructors
@@ -554,7 +511,7 @@ module _ (place : ℕ → Span) (most : ℕ) (given : Given place most) (room : 
   called_laws : (i : ℕ) (f : Bool) → Laws most (r.called place most room i f) (Called i f) Any TallStmt
   unfolding r.called
   called_laws i f = tok t.LeftParen refl (λ _. seq all_values_laws (λ xs. tok t.RightParen refl (λ _. tok t.Semicolon refl (λ _. pure_laws most (stmt.ConstructorCall (place i) f xs) Any TallStmt)))
-      (λ s xs m b j d last. d.kind) (λ s xs m b j d h. tall.tall_constructorcall_args room (place i) f xs b d.rest.rest.tree h))
+      (λ s xs m b j d last. d.kind) (λ s xs m b j d at h. tall.tall_constructorcall_args room (place i) f xs b d.rest.rest.tree h))
 
   to_constructor_call : (s : Text) (a : StmtTree) (i j : ℕ) → Either (Word t.This (λ _. Called i false)) (Word t.Super (λ _. Called i true)) s a i j → ConstructorCall place s a i j
   to_constructor_call s a i j (inl d) = g.of_this d.kind d.rest.kind d.rest.rest.first d.rest.rest.rest.kind d.rest.rest.rest.rest.kind d.rest.rest.rest.rest.rest.tree d.rest.rest.rest.rest.rest.at
@@ -597,7 +554,7 @@ module _ (place : ℕ → Span) (most : ℕ) (given : Given place most) (room : 
   pub case_laws : (i : ℕ) (E : StmtTree → Terminal → Type 0) → Laws most (r.case_label place most room i) (Cased i) E TallStmt
   unfolding r.case_label
   case_laws i E = tok t.Case refl (λ _. seq value_laws (λ x. tok t.Colon refl (λ _. pure_laws most (stmt.Case (place i) x) E TallStmt)) (λ s x m b j d last. value_ends x _ t.Colon d.kind sign_facts.5)
-      (λ s x m b j d h. tall.tall_case_value room (place i) x b d.rest.tree h))
+      (λ s x m b j d at h. tall.tall_case_value room (place i) x b d.rest.tree h))
 
   pub default_laws : (i : ℕ) (E : StmtTree → Terminal → Type 0) → Laws most (r.default_label place most room i) (Defaulted i) E TallStmt
   unfolding r.default_label
@@ -613,8 +570,51 @@ module _ (place : ℕ → Span) (most : ℕ) (given : Given place most) (room : 
       (start {D = LabelRel} (λ i. alt (is t.Case) (case_laws i E) (default_laws i E) (λ s a m j d last. is_kind _ _ d.kind) (λ s a m j d last. is_not _ t.Default t.Case d.kind default_no_case)))
       to_label (λ s a i j d. from_label s d) (λ a x e. e)
 
+-- ---- declarations
+
 module _ (place : ℕ → Span) (most : ℕ) (given : Given place most) where
-  pub declaration_laws : (n : ℕ) → Laws most (r.declaration place most n) (λ s a i j. Declaration place s a i j) (Before t.Semicolon) (λ a. suc n < stmt_height a)
+  abbrev VarsRel : Rel (List VariableTree)
+  VarsRel = λ s a i j. Variables place s a i j
+
+  abbrev DeclarationRel : Rel StmtTree
+  DeclarationRel = λ s a i j. Declaration place s a i j
+
+  abbrev Typed : ℕ → Bool → Rel StmtTree
+  Typed i f = Then (λ s a i j. TypeAt place s a i j) (λ ty. Then VarsRel (λ vs. Same (stmt.Local (place i) f ty vs)))
+
+  abbrev Declared : ℕ → Rel StmtTree
+  Declared i = Then (λ s a i j. MaybeFinal s a i j) (Typed i)
+
+  to_declaration : (s : Text) (a : StmtTree) (i j : ℕ) → Declared i s a i j → Declaration place s a i j
+  to_declaration s a i j d = g.declaration d.first d.rest.first (subst (λ (z : ℕ). Variables place s d.rest.rest.part d.rest.at z) (sym d.rest.rest.rest.at) d.rest.rest.first) d.rest.rest.rest.tree
+
+  from_declaration : (s : Text) {a : StmtTree} {i j : ℕ} → Declaration place s a i j → Declared i s a i j
+  from_declaration s {j = j} (g.declaration {f = f} {ty = ty} {vs = vs} {m = m} {n = n} o d v e) =
+      record { part = f; at = m; first = o; rest = record { part = ty; at = n; first = d; rest = record { part = vs; at = j; first = v; rest = record { tree = e; at = refl } } } }
+
+  -- a variable is a node at its name
+  variable_front : (s : Text) {a : VariableTree} {i j : ℕ} → Variable place s a i j → VariableHasNode 1 (place i) a
+  variable_front s {a = a} (g.variable o d x e) = tall.variable_root _ a (ap (λ (v : VariableTree). v.at) e)
+
+  variables_front : (s : Text) {a : List VariableTree} {i j : ℕ} → Variables place s a i j → SomeVariableHasNode 1 (place i) a
+  variables_front s (g.first_variable {x = x} d e) = tall.tall_one variable_nodes 0 x _ e (variable_front s d)
+  variables_front s (g.next_variable {b = b} {x = x} d o y e) = tall.tall_before variable_nodes 0 b x _ e (variables_front s d)
+
+  pub variables_below_laws : (room : ℕ) → Laws most (r.variables_below place most room) VarsRel (Before t.Semicolon) (SomeVariableHasNode (suc room))
+  unfolding r.variables_below
+  variables_below_laws zero = over_laws most place VarsRel (Before t.Semicolon) (SomeVariableHasNode 1) (variables_laws place most given 0).shape (λ s a i j d. inl (variables_front s d))
+  variables_below_laws (suc room) = variables_laws place most given room
+
+  -- behind `final`
+  typed_laws : (room i : ℕ) (f : Bool) → Laws most (type_at place most >>= λ ty. r.variables_below place most room >>= λ vs. pure (stmt.Local (place i) f ty vs)) (Typed i f) (Before t.Semicolon) (StmtHasNode (suc (suc room)))
+  typed_laws room i f = seq given.type_laws (λ ty. seq (variables_below_laws room) (λ vs. pure_laws most (stmt.Local (place i) f ty vs) (Before t.Semicolon) (StmtHasNode (suc (suc room))))
+      (λ s vs m b j d last. same_after (λ y. y ≡ t.Semicolon) s (stmt.Local (place i) f ty vs) b m j d last)
+      (λ s vs m b j d at h. tall.tall_local_variables room (place i) f ty vs b d.tree h))
+      (λ s ty m b j d last. word_bracket place most given 0 _ (variables_word place most given 0 s d.first))
+      (λ s ty m b j d at h. absurd h)
+
+  pub declaration_laws : (room : ℕ) → Laws most (r.declaration place most room) DeclarationRel (Before t.Semicolon) (StmtHasNode (suc (suc room)))
   unfolding r.declaration
-  declaration_laws zero = over_laws most (λ s a i j. Declaration place s a i j) (Before t.Semicolon) (λ a. 1 < stmt_height a) (declaration_by_laws place most given 0).shape (λ s a i j d. inl (declaration_high place most given 0 s d))
-  declaration_laws (suc room) = declaration_by_laws place most given room
+  declaration_laws room = renamed DeclarationRel (Before t.Semicolon)
+      (start {D = Declared} (λ i. seq (final_laws most) (λ f. typed_laws room i f) (λ s f m b j d last. type_no_final place s d.first) (λ s f m b j d at h. absurd h)))
+      to_declaration (λ s a i j d. from_declaration s d) (λ a x e. e)

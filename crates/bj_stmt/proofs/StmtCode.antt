@@ -1,7 +1,5 @@
--- The statements of a level of depth, as the code reads them, and the heights of forms.
-use Rattle.std.proofs.Common.{List, [], ◌∷◌, ◌++◌, ◌≡◌, ℕ, zero, suc, ◌+◌, ◌-◌, ◌<◌, ◌≤◌, Bool, Result, length, map, take, get_or, sym, ap, ◌∙◌, subst, arith}
-use Rattle.std.specs.Prelude.{max, min}
-use Rattle.std.proofs.lemmas.List.{take_more}
+-- The statements of a level of depth, as the code reads them.
+use Rattle.std.proofs.Common.{List, [], ◌∷◌, ◌++◌, ◌≡◌, ℕ, zero, suc, ◌+◌, ◌-◌, ◌<◌, ◌≤◌, Bool, Result, length, refl, sym, ap, ◌∙◌, subst, arith}
 use Rattle.bj_core.specs.declared.types.Span.{Span}
 use Rattle.bj_lex.specs.declared.token.Token.{Token}
 use Rattle.bj_tree.specs.declared.types.NamedPlace.{NamedPlace}
@@ -9,48 +7,49 @@ use Rattle.bj_tree.specs.declared.types.TypeTree.{TypeTree}
 use Rattle.bj_tree.specs.declared.stmt.StmtTree.{StmtTree}
 use Rattle.bj_tree.specs.declared.stmt.StmtTree.TheVariants as stmt
 use Rattle.bj_tree.specs.declared.stmt.VariableTree.{VariableTree}
-use Rattle.bj_tree.specs.Size.{most}
 use Rattle.bj_grammar.specs.Terminal.{terminal, same_terminal}
 use Rattle.bj_grammar.specs.declared.terminal.Terminal.{Terminal}
 use Rattle.bj_grammar.specs.declared.terminal.Terminal.TheVariants as t
 use Rattle.bj_grammar.specs.Reader.{Text, Parser, Answer, Found, and_then}
 use Rattle.bj_grammar.specs.declared.stop.Stop.{Stop}
-use Rattle.bj_grammar.specs.Given.{IsOver, Fails, Gives, place_of, text_of}
+use Rattle.bj_grammar.specs.Given.{IsDeepAt, Fails, Gives, place_of, text_of}
 use Rattle.bj_grammar.proofs.LoopLemmas.{deeper, fails_then, fails_same, gives_same}
 use Rattle.bj_grammar.proofs.TextLemmas.{end_other}
 use Rattle.bj_stmt.specs.declared.part.StmtPart.{StmtPart}
-use Rattle.bj_stmt.specs.Reading.{nested, rule, declaration, declaration_by, for_variables, for_tail, variables_behind}
-use Rattle.bj_stmt.proofs.StmtTall.{block_height, empty_height, local_height, expression_height, if_height, ifelse_height, while_height, do_height, for_height, foreach_height, switch_height, case_height, default_height, labelled_height, break_height, continue_height, return_height, throw_height, synchronized_height, synchronizedclass_height, try_height, tryfinally_height, catch_height, constructorcall_height, height_end}
-
-pub ruleset stmt_heights = (block_height, empty_height, local_height, expression_height, if_height, ifelse_height, while_height, do_height, for_height, foreach_height, switch_height, case_height, default_height, labelled_height, break_height, continue_height, return_height, throw_height, synchronized_height, synchronizedclass_height, try_height, tryfinally_height, catch_height, constructorcall_height)
+use Rattle.bj_stmt.specs.Reading.{nested, rule, variables_below, variables, for_variables, for_tail, variables_behind}
 
 -- ---- one level of depth
 
-pub nested_zero : (tokens : List Token) (most room : ℕ) (x : StmtPart) (s : Text) (i : ℕ) → room ≡ 0 → IsOver (nested (place_of tokens) most room x s i)
+pub told : {A : Type 0} (at node : Span) (r : Answer A) → at ≡ node → IsDeepAt node r → IsDeepAt at r
+told at node r e h = subst (λ (x : Span). IsDeepAt x r) (sym e) h
+
+pub nested_zero : (tokens : List Token) (most room : ℕ) (x : StmtPart) (s : Text) (i : ℕ) → room ≡ 0 → IsDeepAt (place_of tokens i) (nested (place_of tokens) most room x s i)
 unfolding nested
-nested_zero tokens most room x s i none = subst (λ (n : ℕ). IsOver (nested (place_of tokens) most n x s i)) (sym none) tt
+nested_zero tokens most room x s i none = subst (λ (n : ℕ). IsDeepAt (place_of tokens i) (nested (place_of tokens) most n x s i)) (sym none) refl
 
 pub nested_more : (tokens : List Token) (most room : ℕ) (x : StmtPart) (s : Text) (i : ℕ) → 0 < room
     → nested (place_of tokens) most room x s i ≡ rule (place_of tokens) most (room - 1) (nested (place_of tokens) most (room - 1)) x s i
 unfolding nested
 nested_more tokens most room x s i some = deeper (λ (n : ℕ). nested (place_of tokens) most n x s i) room some
 
-pub declaration_zero : (tokens : List Token) (most room : ℕ) (s : Text) (i : ℕ) → room ≡ 0 → IsOver (declaration (place_of tokens) most room s i)
-unfolding declaration
-declaration_zero tokens most room s i none = subst (λ (n : ℕ). IsOver (declaration (place_of tokens) most n s i)) (sym none) tt
+pub variables_zero : (tokens : List Token) (most room : ℕ) (s : Text) (i : ℕ) → room ≡ 0 → IsDeepAt (place_of tokens i) (variables_below (place_of tokens) most room s i)
+unfolding variables_below
+variables_zero tokens most room s i none = subst (λ (n : ℕ). IsDeepAt (place_of tokens i) (variables_below (place_of tokens) most n s i)) (sym none) refl
 
-pub declaration_more : (tokens : List Token) (most room : ℕ) (s : Text) (i : ℕ) → 0 < room → declaration (place_of tokens) most room s i ≡ declaration_by (place_of tokens) most (room - 1) s i
-unfolding declaration
-declaration_more tokens most room s i some = deeper (λ (n : ℕ). declaration (place_of tokens) most n s i) room some
+pub variables_more : (tokens : List Token) (most room : ℕ) (s : Text) (i : ℕ) → 0 < room → variables_below (place_of tokens) most room s i ≡ variables (place_of tokens) most (room - 1) s i
+unfolding variables_below
+variables_more tokens most room s i some = deeper (λ (n : ℕ). variables_below (place_of tokens) most n s i) room some
 
 -- ---- a `for` that declares
 
 module _ (place : ℕ → Span) (most : ℕ) (nested : StmtPart → Parser StmtTree) (i d : ℕ) (f : Bool) (ty : TypeTree) (name : NamedPlace) (m : ℕ) (s : Text) (at : ℕ) where
-  pub for_low : (room : ℕ) → room < 2 → IsOver (for_variables place most room nested i d f ty name m s at)
+  pub for_none : (room : ℕ) → room ≡ 0 → IsDeepAt (place d) (for_variables place most room nested i d f ty name m s at)
   unfolding for_variables
-  for_low zero low = tt
-  for_low (suc zero) low = tt
-  for_low (suc (suc room)) low = absurd (omega arith)
+  for_none room none = subst (λ (n : ℕ). IsDeepAt (place d) (for_variables place most n nested i d f ty name m s at)) (sym none) refl
+
+  pub for_one : (room : ℕ) → room ≡ 1 → IsDeepAt (place m) (for_variables place most room nested i d f ty name m s at)
+  unfolding for_variables
+  for_one room one = subst (λ (n : ℕ). IsDeepAt (place m) (for_variables place most n nested i d f ty name m s at)) (sym one) refl
 
   abbrev For : ℕ → Answer (List VariableTree) → Answer StmtTree
   For room r = and_then r (λ vs j. for_tail place most room nested i (stmt.Local (place d) f ty vs ∷ []) s j)
@@ -76,12 +75,3 @@ past_next tokens at k b le e = e ∙ ap (λ (x : Terminal). same_terminal x k) (
 
 pub past_second : (tokens : List Token) (at : ℕ) (k : Terminal) (b : Bool) → length tokens ≤ at → b ≡ same_terminal t.Other k → b ≡ same_terminal (terminal (text_of tokens (suc (suc at)))) k
 past_second tokens at k b le e = e ∙ ap (λ (x : Terminal). same_terminal x k) (sym (end_other tokens (suc (suc at)) (omega arith)))
-
--- ---- the height of a list
-
-pub highest_step : {A : Type 0} (f : A → ℕ) (xs : List A) (n : ℕ) (x : A) (m h r : ℕ) → n < length xs → x ≡ get_or xs n x → m ≡ min (most (map f (take n xs))) 4294967295 → h ≡ min (f x) 4294967295 → r ≡ max m h
-    → r ≡ min (most (map f (take (n + 1) xs))) 4294967295
-highest_step f xs n x m h r below is em eh er =
-    let e : most (map f (take (n + 1) xs)) ≡ max (most (map f (take n xs))) (f x) =
-    ap (λ (ys : List _). most (map f ys)) (take_more xs n x below ∙ ap (λ (y : _). take n xs ++ y ∷ []) (sym is)) ∙ height_end f (take n xs) x in
-    omega arith

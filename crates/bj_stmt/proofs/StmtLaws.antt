@@ -11,7 +11,6 @@ use Rattle.bj_tree.specs.declared.expr.ExprTree.TheVariants as tree
 use Rattle.bj_tree.specs.declared.stmt.VariableTree.{VariableTree}
 use Rattle.bj_tree.specs.declared.stmt.StmtTree.{StmtTree}
 use Rattle.bj_tree.specs.declared.stmt.StmtTree.TheVariants as stmt
-use Rattle.bj_tree.specs.Size.{height_of}
 use Rattle.bj_grammar.specs.declared.terminal.Terminal.{Terminal}
 use Rattle.bj_grammar.specs.declared.terminal.Terminal.TheVariants as t
 use Rattle.bj_grammar.specs.Terminal.{terminal, same_terminal, among}
@@ -28,17 +27,16 @@ use Rattle.bj_stmt.specs.Grammar as g
 use Rattle.bj_stmt.specs.Grammar.{is_statement, jump, jumps, dangles, MaybeFinal, MaybeInit, MaybeExpression, MaybeExpressions, MaybeName, Variables, Declaration, Evaluation, Evaluations, ForInit, Statement, Block, BlockStatements, BlockStatement, Members, Member, Label, Catches, Catch, ConstructorCall, ConstructorBody}
 use Rattle.bj_stmt.specs.Reading as r
 use Rattle.bj_stmt.specs.Reading.{declares, is_labelled, is_class_lock, is_constructor_call, constructors, inside, is_empty, branch_words, loop_words, leave_words, guard_words}
-use Rattle.bj_stmt.specs.Heights.{variable_height, stmt_height}
+use Rattle.bj_stmt.specs.Nodes.{stmt_nodes_at, StmtHasNode, SomeStmtHasNode}
 use Rattle.bj_stmt.proofs.Expressions.{Given, expression_words, enders, AfterType, Never}
 use Rattle.bj_stmt.proofs.StmtTall as tall
-use Rattle.bj_stmt.proofs.StmtTall.{stmts_height, variables_height}
 use Rattle.bj_stmt.proofs.StmtShape.{block_forward, block_statement_forward, member_forward, label_forward, catch_forward, evaluation_forward}
 use Rattle.bj_stmt.proofs.Leftmost.{each, or_cases, is_not, none_of, or_none, or_split, and_first, and_second, Second, Next, followed, expression_leftmost, paren_second, semicolon_second, comma_second}
 use Rattle.bj_stmt.proofs.Begins as Begins
 use Rattle.bj_stmt.proofs.Begins.{no_follow, member_words, First, member_first}
 use Rattle.bj_stmt.proofs.Starts.{member_begins, block_statement_begins, statement_begins, evaluation_begins, block_begins, block_member_word, statement_block_word, is_inside, dims_two, type_declares, final_declares, evaluation_declares, evaluation_next}
-use Rattle.bj_stmt.proofs.Ahead.{stop_then, stop_word, declares_depends, labelled_depends, class_depends, constructor_depends, type_past, type_past_bracket, evaluation_past, evaluation_past_bracket, value_past, value_past_dot, goes_on, call_evaluation, assigned_evaluation}
-use Rattle.bj_stmt.proofs.Small.{same_after, pick_laws, list_facts, CommaVariable, VariablesBehind, variables_behind_laws, variables_laws, variables_word, Cased, Defaulted, to_named, from_named, declaration_laws, evaluation_laws, constructor_call_laws, label_laws, LabelRel, case_laws, default_laws, to_label, from_label, Any, Before, InList, list_ends, in_list, in_enders, sign_facts, final_laws, type_no_final, NameAt, name_laws, maybe_name_laws, ExprRel, value_laws, value_ends, maybe_value_laws, all_values_laws}
+use Rattle.bj_stmt.proofs.Ahead.{stop_then, forth, stop_word, declares_depends, labelled_depends, class_depends, constructor_depends, type_past, type_past_bracket, evaluation_past, evaluation_past_bracket, value_past, value_past_dot, goes_on, call_evaluation, assigned_evaluation}
+use Rattle.bj_stmt.proofs.Small.{same_after, pick_laws, list_facts, CommaVariable, VariablesBehind, variables_behind_laws, variables_below_laws, variables_word, Cased, Defaulted, to_named, from_named, declaration_laws, evaluation_laws, constructor_call_laws, label_laws, LabelRel, case_laws, default_laws, to_label, from_label, Any, Before, InList, list_ends, in_list, in_enders, sign_facts, final_laws, type_no_final, NameAt, name_laws, maybe_name_laws, ExprRel, value_laws, value_ends, maybe_value_laws, all_values_laws}
 use Rattle.bj_stmt.proofs.Rules.{
   StandsAs,
   AfterStatement,
@@ -83,13 +81,13 @@ use Rattle.bj_stmt.proofs.Rules.{
 use Rattle.bj_stmt.proofs.ForRules.{ForRel, for_laws, to_for, from_for, from_each}
 
 module _ (place : ℕ → Span) (most : ℕ) (given : Given place most) (room : ℕ) (nested : StmtPart → Parser StmtTree)
-    (u : (x : StmtPart) → Laws most (nested x) (StandsAs x place) (AfterPart x) (λ a. room < stmt_height a))
+    (u : (x : StmtPart) → Laws most (nested x) (StandsAs x place) (AfterPart x) (StmtHasNode (suc room)))
     (greedy : Greedy (nested p.Statement)) where
-  abbrev TallStmt : StmtTree → Type 0
-  TallStmt a = suc room < stmt_height a
+  abbrev TallStmt : Span → StmtTree → Type 0
+  TallStmt = StmtHasNode (suc (suc room))
 
-  abbrev TallList : List StmtTree → Type 0
-  TallList a = room < stmts_height a
+  abbrev TallList : Span → List StmtTree → Type 0
+  TallList = SomeStmtHasNode (suc room)
 
   abbrev BodyRel : Rel StmtTree
   BodyRel = λ s a i j. Statement place s a i j
@@ -130,7 +128,7 @@ module _ (place : ℕ → Span) (most : ℕ) (given : Given place most) (room : 
 
   step_laws : (b : List StmtTree) → Laws most (r.next_statement place most room nested b) (StmtStep b) InBlock TallList
   unfolding r.next_statement
-  step_laws b = seq (u p.BlockStatement) (λ c. pure_laws most (b ++ c ∷ []) InBlock TallList) (λ s c m a j d last. in_block c _ (same_after (λ y. among no_follow y ≡ false) s (b ++ c ∷ []) a m j d last)) (λ s c m a j d h. tall.tall_end stmt_height room b c a d.tree h)
+  step_laws b = seq (u p.BlockStatement) (λ c. pure_laws most (b ++ c ∷ []) InBlock TallList) (λ s c m a j d last. in_block c _ (same_after (λ y. among no_follow y ≡ false) s (b ++ c ∷ []) a m j d last)) (λ s c m a j d at h. tall.tall_end stmt_nodes_at room b c a d.tree h)
 
   first_of_step : (s : Text) (x a : List StmtTree) (i j : ℕ) → StmtStep x s a i j → First (terminal (s i))
   first_of_step s x a i j d = member_first (terminal (s i)) (block_member_word (terminal (s i)) (block_statement_begins place most given s d.first))
@@ -140,7 +138,7 @@ module _ (place : ℕ → Span) (most : ℕ) (given : Given place most) (room : 
 
   steps_laws : (b : List StmtTree) → Laws most (loop most inside (r.next_statement place most room nested) b) (λ s a i j. Steps StmtStep s b a i j) (λ a k. InBlock a k × (inside k ≡ false)) TallList
   steps_laws b = loop_laws most inside (r.next_statement place most room nested) StmtStep InBlock TallList step_laws
-      (λ s x a i j d. is_inside _ (first_of_step s x a i j d).0) step_strict (λ s x a i j d. (first_of_step s x a i j d).1.0) (λ s x a i j d h. tall.tall_before stmt_height room x d.part a d.rest.tree h) most (le_refl most) b
+      (λ s x a i j d. is_inside _ (first_of_step s x a i j d).0) step_strict (λ s x a i j d. (first_of_step s x a i j d).1.0) (λ s x a i j d at h. tall.tall_before stmt_nodes_at room x d.part a d.rest.tree h) most (le_refl most) b
 
   abbrev Closed : ℕ → List StmtTree → Rel StmtTree
   Closed i all s a m j = Word t.RightBrace (λ _. Same (stmt.Block (place i) all (place m))) s a m j
@@ -156,7 +154,7 @@ module _ (place : ℕ → Span) (most : ℕ) (given : Given place most) (room : 
   unfolding r.rest_of_block
   rest_laws i b E = seq (steps_laws b) (λ all. start {D = λ m. Word t.RightBrace (λ _. Same (stmt.Block (place i) all (place m)))} (λ m. tok t.RightBrace refl (λ _. pure_laws most (stmt.Block (place i) all (place m)) E TallStmt)))
       (λ s all m a j d last. (none_of no_follow (terminal (s m)) t.RightBrace d.kind brace_facts.0, ap inside d.kind ∙ brace_facts.1))
-      (λ s all m a j d h. tall.tall_block_body room (place i) all (place m) a d.rest.tree h)
+      (λ s all m a j d at h. tall.tall_block_body room (place i) all (place m) a d.rest.tree h)
 
   abbrev BlockStatementsRel : Rel (List StmtTree)
   BlockStatementsRel = λ s a i j. BlockStatements place s a i j
@@ -203,10 +201,10 @@ module _ (place : ℕ → Span) (most : ℕ) (given : Given place most) (room : 
 
   calling_laws : (i : ℕ) → Laws most (nested p.ConstructorCall >>= λ c. r.rest_of_block place most room nested i (c ∷ [])) (CallingRel i) Any TallStmt
   calling_laws i = seq (u p.ConstructorCall) (λ c. rest_laws i (c ∷ []) Any) (λ s c m a j d last. tt)
-      (λ s c m a j d h. tall.tall_block_body room (place i) d.part (place d.at) a d.rest.rest.tree (steps_tall s c d.part m d.at d.first h))
+      (λ s c m a j d at h. tall.tall_block_body room (place i) d.part (place d.at) a d.rest.rest.tree (steps_tall s c d.part m d.at d.first h))
     where
-      steps_tall : (s : Text) (c : StmtTree) (all : List StmtTree) (m j : ℕ) → Steps StmtStep s (c ∷ []) all m j → room < stmt_height c → room < stmts_height all
-      steps_tall s c all m j d h = steps_fold StmtStep (λ s a i j. room < stmts_height a) s m (λ b e k l w o. tall.tall_before stmt_height room b o.part e o.rest.tree w) (c ∷ []) all m j (tall.tall_one stmt_height room c (c ∷ []) refl h) d
+      steps_tall : {p : Span} (s : Text) (c : StmtTree) (all : List StmtTree) (m j : ℕ) → Steps StmtStep s (c ∷ []) all m j → StmtHasNode (suc room) p c → SomeStmtHasNode (suc room) p all
+      steps_tall {p} s c all m j d h = steps_fold StmtStep (λ s a i j. SomeStmtHasNode (suc room) p a) s m (λ b e k l w o. tall.tall_before stmt_nodes_at room b o.part e o.rest.tree w) (c ∷ []) all m j (tall.tall_one stmt_nodes_at room c (c ∷ []) refl h) d
 
   call_begins : (s : Text) {a : StmtTree} {i j : ℕ} → ConstructorCall place s a i j → is_constructor_call s i ≡ true
   unfolding same_terminal
@@ -376,13 +374,13 @@ module _ (place : ℕ → Span) (most : ℕ) (given : Given place most) (room : 
   calling_past i s m h =
       let c = goes_on s (suc m) (t.LeftParen ∷ t.RightParen ∷ t.Semicolon ∷ []) (refl, (refl, (refl, tt))) in
       let d = constructor_call_at c.0 m (moved s c.0 m (c.1 m (omega arith)) (which (terminal (s m)) h)) c.2.1.kind c.2.1.rest.kind c.2.1.rest.rest.kind in
-      let k = reaches most (nested p.ConstructorCall) (λ s a i j. ConstructorCall place s a i j) (λ a k. Unit {0}) (λ a. room < stmt_height a) (u p.ConstructorCall) s c.0 m m d.0 (suc (suc (suc (suc m)))) (λ x k. c.1 x (omega arith)) d.1 tt (omega arith) (omega arith) in
-      let n = stop_then (nested p.ConstructorCall s m) (λ c k. r.rest_of_block place most room nested i (c ∷ []) s k) (λ c k. (rest_laws i (c ∷ []) Any).onward s k) in
+      let k = reaches most (nested p.ConstructorCall) (λ s a i j. ConstructorCall place s a i j) (λ a k. Unit {0}) (StmtHasNode (suc room)) (u p.ConstructorCall) s c.0 m m d.0 (suc (suc (suc (suc m)))) (λ x k. c.1 x (omega arith)) d.1 tt (omega arith) (omega arith) in
+      let n = stop_then (nested p.ConstructorCall s m) (λ c k. r.rest_of_block place most room nested i (c ∷ []) s k) (λ c k. forth (rest_laws i (c ∷ []) Any) s k) in
       omega arith
 
   constructor_seen : (i : ℕ) (s v : Text) (m : ℕ) → ((x : ℕ) → x ≤ stop (ahead is_constructor_call (nested p.ConstructorCall >>= λ c. r.rest_of_block place most room nested i (c ∷ [])) (r.rest_of_block place most room nested i []) s m) → v x ≡ s x)
       → is_constructor_call v m ≡ is_constructor_call s m
-  constructor_seen i s v m same = constructor_depends s v m (same m (reach m (λ e. (calling_laws i).onward s m) (λ e. (rest_laws i [] Any).onward s m)))
+  constructor_seen i s v m same = constructor_depends s v m (same m (reach m (λ e. forth (calling_laws i) s m) (λ e. forth (rest_laws i [] Any) s m)))
       (λ w. same (suc m) (reach (suc m) (λ e. calling_past i s m w) (λ e. rest_past i s m w)))
     where
       reach : (n : ℕ) → (is_constructor_call s m ≡ true → n ≤ stop ((nested p.ConstructorCall >>= λ c. r.rest_of_block place most room nested i (c ∷ [])) s m)) → (is_constructor_call s m ≡ false → n ≤ stop (r.rest_of_block place most room nested i [] s m))
@@ -438,7 +436,7 @@ module _ (place : ℕ → Span) (most : ℕ) (given : Given place most) (room : 
 
   colon_laws : (i : ℕ) (v : List ℕ) → Laws most (sign t.Colon (nested p.Statement >>= λ b. pure (stmt.Labelled (place i) v b))) (Word t.Colon (λ _. Then BodyRel (λ b. Same (stmt.Labelled (place i) v b)))) AfterStatement TallStmt
   colon_laws i v = tok t.Colon refl (λ _. seq (u p.Statement) (λ b. pure_laws most (stmt.Labelled (place i) v b) AfterStatement TallStmt)
-      (λ s b m a j d last. handed (stmt.Labelled (place i) v) (λ b. Begins.labelled_dangles (place i) v b) s b a m j d last) (λ s b m a j d h. tall.tall_labelled_body room (place i) v b a d.tree h))
+      (λ s b m a j d last. handed (stmt.Labelled (place i) v) (λ b. Begins.labelled_dangles (place i) v b) s b a m j d last) (λ s b m a j d at h. tall.tall_labelled_body room (place i) v b a d.tree h))
 
   labelled_laws : (i : ℕ) → Laws most (r.labelled place most room nested i) (LabelledRel i) AfterStatement TallStmt
   unfolding r.labelled
@@ -447,26 +445,26 @@ module _ (place : ℕ → Span) (most : ℕ) (given : Given place most) (room : 
   abbrev EvaluateRel : Rel StmtTree
   EvaluateRel = Then (λ s a i j. Evaluation place s a i j) (λ a. Word t.Semicolon (λ _. Same a))
 
-  same_tall : (a b : StmtTree) → b ≡ a → TallStmt a → TallStmt b
-  same_tall a b e h = let k = ap stmt_height e in omega arith
+  same_tall : {at : Span} (a b : StmtTree) → b ≡ a → TallStmt at a → TallStmt at b
+  same_tall {at} a b e h = subst (TallStmt at) (sym e) h
 
   evaluate_laws : (E : StmtTree → Terminal → Type 0) → Laws most (r.evaluate place most room nested) EvaluateRel E TallStmt
   unfolding r.evaluate
-  evaluate_laws E = seq (evaluation_laws place most given room) (λ a. tok t.Semicolon refl (λ _. pure_laws most a E TallStmt)) (λ s a m b j d last. in_list _ t.Semicolon d.kind sign_facts.0) (λ s a m b j d h. same_tall a b d.rest.tree h)
+  evaluate_laws E = seq (evaluation_laws place most given room) (λ a. tok t.Semicolon refl (λ _. pure_laws most a E TallStmt)) (λ s a m b j d last. in_list _ t.Semicolon d.kind sign_facts.0) (λ s a m b j d at h. same_tall a b d.rest.tree h)
 
   labelled_stop : (i : ℕ) (s : Text) (m : ℕ) → is_labelled s m ≡ true → suc m ≤ stop (r.labelled place most room nested i s m)
   unfolding r.labelled
   labelled_stop i s m e = stop_word t.Word (λ v. sign t.Colon (nested p.Statement >>= λ b. pure (stmt.Labelled (place i) v b))) s m (suc m) (and_first_true (same_terminal (terminal (s m)) t.Word) _ e)
-      ((colon_laws i (s m).text).onward s (suc m))
+      (forth (colon_laws i (s m).text) s (suc m))
 
   evaluate_stop : (s : Text) (m n : ℕ) → n ≤ stop (r.evaluation place most room s m) → n ≤ stop (r.evaluate place most room nested s m)
   unfolding r.evaluate
   evaluate_stop s m n h =
-      let k = stop_then (r.evaluation place most room s m) (λ a k. sign t.Semicolon (pure a) s k) (λ a k. (tok {E = Any} {T = TallStmt} t.Semicolon refl (λ _. pure_laws most a Any TallStmt)).onward s k) in
+      let k = stop_then (r.evaluation place most room s m) (λ a k. sign t.Semicolon (pure a) s k) (λ a k. forth (tok {E = Any} {T = TallStmt} t.Semicolon refl (λ _. pure_laws most a Any TallStmt)) s k) in
       omega arith
 
   labelled_seen : (i : ℕ) (s v : Text) (m : ℕ) → ((x : ℕ) → x ≤ stop (ahead is_labelled (r.labelled place most room nested i) (r.evaluate place most room nested) s m) → v x ≡ s x) → is_labelled v m ≡ is_labelled s m
-  labelled_seen i s v m same = labelled_depends s v m (same m (reach m (λ e. (labelled_laws i).onward s m) (λ e. (evaluate_laws Any).onward s m)))
+  labelled_seen i s v m same = labelled_depends s v m (same m (reach m (λ e. forth (labelled_laws i) s m) (λ e. forth (evaluate_laws Any) s m)))
       (λ w. same (suc m) (reach (suc m) (λ e. labelled_stop i s m e) (λ e. evaluate_stop s m (suc m) (evaluation_past place most given s m w (r.evaluation place most room) TallStmt (evaluation_laws place most given room)))))
     where
       reach : (n : ℕ) → (is_labelled s m ≡ true → n ≤ stop (r.labelled place most room nested i s m)) → (is_labelled s m ≡ false → n ≤ stop (r.evaluate place most room nested s m))
@@ -723,7 +721,7 @@ module _ (place : ℕ → Span) (most : ℕ) (given : Given place most) (room : 
 
   local_laws : Laws most (r.local place most room nested) LocalRel AfterStatement TallStmt
   unfolding r.local
-  local_laws = seq (declaration_laws place most given room) (λ a. tok t.Semicolon refl (λ _. pure_laws most a AfterStatement TallStmt)) (λ s a m b j d last. d.kind) (λ s a m b j d h. same_tall a b d.rest.tree h)
+  local_laws = seq (declaration_laws place most given room) (λ a. tok t.Semicolon refl (λ _. pure_laws most a AfterStatement TallStmt)) (λ s a m b j d last. d.kind) (λ s a m b j d at h. same_tall a b d.rest.tree h)
 
   declares_type : (s : Text) {a : StmtTree} {i j : ℕ} → Declaration place s a i j → declares s i ≡ true
   declares_type s {j = j} (g.declaration {n = n} (g.not_final e at) ty vs tree) = subst (λ (z : ℕ). declares s z ≡ true) at (type_declares place s ty (variables_word place most given 0 s vs))
@@ -737,22 +735,21 @@ module _ (place : ℕ → Span) (most : ℕ) (given : Given place most) (room : 
   unfolding same_terminal
   word_no_final x e = is_not x t.Word t.Final (kind_is x t.Word e) refl
 
-  typed_onward : (k i : ℕ) (ty : TypeTree) (s : Text) (m : ℕ) → m ≤ stop ((r.variables place most k >>= λ vs. pure (stmt.Local (place i) false ty vs)) s m)
+  typed_onward : (k i : ℕ) (ty : TypeTree) (s : Text) (m : ℕ) → m ≤ stop ((r.variables_below place most k >>= λ vs. pure (stmt.Local (place i) false ty vs)) s m)
   typed_onward k i ty s m =
-      let x = stop_then (r.variables place most k s m) (λ vs n. Found (stmt.Local (place i) false ty vs) n) (λ vs n. le_refl n) in
-      let y = (variables_laws place most given k).onward s m in
+      let x = stop_then (r.variables_below place most k s m) (λ vs n. Found (stmt.Local (place i) false ty vs) n) (λ vs n. le_refl n) in
+      let y = forth (variables_below_laws place most given k) s m in
       omega arith
 
-  declaration_stop : (k : ℕ) (s : Text) (d n : ℕ) → same_terminal (terminal (s d)) t.Word ≡ true → n ≤ suc (suc d) → n ≤ stop (type_at place most s d) → n ≤ stop (r.declaration place most k s d)
-  unfolding r.declaration r.declaration_by
-  declaration_stop zero s d n w le h = omega arith
-  declaration_stop (suc k) s d n w le h = stop_found (r.maybe_final s d) (λ f m. (type_at place most >>= λ ty. r.variables place most k >>= λ vs. pure (stmt.Local (place d) f ty vs)) s m) false d n (final_none s d (word_no_final (terminal (s d)) w))
-      (let x = stop_then (type_at place most s d) (λ ty m. (r.variables place most k >>= λ vs. pure (stmt.Local (place d) false ty vs)) s m) (λ ty m. typed_onward k d ty s m) in omega arith)
+  declaration_stop : (k : ℕ) (s : Text) (d n : ℕ) → same_terminal (terminal (s d)) t.Word ≡ true → n ≤ stop (type_at place most s d) → n ≤ stop (r.declaration place most k s d)
+  unfolding r.declaration
+  declaration_stop k s d n w h = stop_found (r.maybe_final s d) (λ f m. (type_at place most >>= λ ty. r.variables_below place most k >>= λ vs. pure (stmt.Local (place d) f ty vs)) s m) false d n (final_none s d (word_no_final (terminal (s d)) w))
+      (let x = stop_then (type_at place most s d) (λ ty m. (r.variables_below place most k >>= λ vs. pure (stmt.Local (place d) false ty vs)) s m) (λ ty m. typed_onward k d ty s m) in omega arith)
 
   local_stop : (s : Text) (d n : ℕ) → n ≤ stop (r.declaration place most room s d) → n ≤ stop (r.local place most room nested s d)
   unfolding r.local
   local_stop s d n h =
-      let k = stop_then (r.declaration place most room s d) (λ a k. sign t.Semicolon (pure a) s k) (λ a k. (tok {E = Any} {T = TallStmt} t.Semicolon refl (λ _. pure_laws most a Any TallStmt)).onward s k) in
+      let k = stop_then (r.declaration place most room s d) (λ a k. sign t.Semicolon (pure a) s k) (λ a k. forth (tok {E = Any} {T = TallStmt} t.Semicolon refl (λ _. pure_laws most a Any TallStmt)) s k) in
       omega arith
 
   -- a statement that is followed by another looks behind a name at its front
@@ -787,9 +784,9 @@ module _ (place : ℕ → Span) (most : ℕ) (given : Given place most) (room : 
       (g.evaluate d.1 row.rest.rest.rest.rest.kind refl) (semicolon_after d.0 (terminal (c.0 (suc (suc (suc (suc (suc (suc (suc i))))))))) (evaluation_never c.0 d.1) row.rest.rest.rest.rest.rest.kind) (omega arith) (omega arith)
 
   declares_seen : (s v : Text) (d : ℕ) → ((x : ℕ) → x ≤ stop (ahead declares (r.local place most room nested) (r.statement place most room nested) s d) → v x ≡ s x) → declares v d ≡ declares s d
-  declares_seen s v d same = declares_depends s v d (same d (reach d (λ e. local_laws.onward s d) (λ e. statement_laws.onward s d)))
-      (λ w. same (suc d) (reach (suc d) (λ e. local_stop s d (suc d) (declaration_stop room s d (suc d) w (omega arith) (type_past place most given s d w))) (λ e. statement_past s d w)))
-      (λ w b. same (suc (suc d)) (reach (suc (suc d)) (λ e. local_stop s d (suc (suc d)) (declaration_stop room s d (suc (suc d)) w (le_refl (suc (suc d))) (type_past_bracket place most given s d w b))) (λ e. statement_past_bracket s d w b)))
+  declares_seen s v d same = declares_depends s v d (same d (reach d (λ e. forth local_laws s d) (λ e. forth statement_laws s d)))
+      (λ w. same (suc d) (reach (suc d) (λ e. local_stop s d (suc d) (declaration_stop room s d (suc d) w (type_past place most given s d w))) (λ e. statement_past s d w)))
+      (λ w b. same (suc (suc d)) (reach (suc (suc d)) (λ e. local_stop s d (suc (suc d)) (declaration_stop room s d (suc (suc d)) w (type_past_bracket place most given s d w b))) (λ e. statement_past_bracket s d w b)))
     where
       reach : (n : ℕ) → (declares s d ≡ true → n ≤ stop (r.local place most room nested s d)) → (declares s d ≡ false → n ≤ stop (r.statement place most room nested s d))
           → n ≤ stop (ahead declares (r.local place most room nested) (r.statement place most room nested) s d)
@@ -888,8 +885,8 @@ module _ (place : ℕ → Span) (most : ℕ) (given : Given place most) (room : 
 
   for_variables_greedy : (k i d : ℕ) (f : Bool) (ty : TypeTree) (name : NamedPlace) (m : ℕ) → Greedy (r.for_variables place most k nested i d f ty name m)
   unfolding r.for_variables
-  for_variables_greedy zero i d f ty name m = over_greedy
-  for_variables_greedy (suc zero) i d f ty name m = over_greedy
+  for_variables_greedy zero i d f ty name m = over_greedy (λ _. place d)
+  for_variables_greedy (suc zero) i d f ty name m = over_greedy (λ _. place m)
   for_variables_greedy (suc (suc k)) i d f ty name m = then_greedy (r.variables_behind place most k m name.name) (λ vs. r.for_tail place most (suc (suc k)) nested i (stmt.Local (place d) f ty vs ∷ [])) (λ vs. for_tail_greedy (suc (suc k)) i (stmt.Local (place d) f ty vs ∷ []))
 
   for_each_greedy : (i : ℕ) (f : Bool) (ty : TypeTree) (name : NamedPlace) → Greedy (r.for_each place most room nested i f ty name)

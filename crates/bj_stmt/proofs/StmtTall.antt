@@ -1,6 +1,7 @@
--- A statement is higher than its parts.
-use Rattle.std.proofs.Common.{◌≡◌, ℕ, suc, ◌+◌, ◌<◌, ◌≤◌, Bool, List, [], ◌∷◌, ◌++◌, map, Option, Some, None, option_map, unwrap_or, refl, sym, ap, ◌∙◌, arith}
-use Rattle.std.specs.Prelude.{max}
+-- What is below a node stands one deeper in a statement.
+use Rattle.std.proofs.Common.{◌≡◌, ℕ, suc, ◌≤◌, Bool, List, [], ◌∷◌, ◌++◌, map, Option, Some, refl, sym, ap, ◌∙◌, subst, arith, append_assoc, append-nil}
+use Rattle.std.specs.Prelude.{Contains}
+use Rattle.std.proofs.lemmas.List.Elements.{Contains-append_left, Contains-append_right}
 use Rattle.bj_core.specs.declared.types.Span.{Span}
 use Rattle.bj_tree.specs.declared.types.TypeTree.{TypeTree}
 use Rattle.bj_tree.specs.declared.types.NamedPlace.{NamedPlace}
@@ -8,239 +9,183 @@ use Rattle.bj_tree.specs.declared.expr.ExprTree.{ExprTree}
 use Rattle.bj_tree.specs.declared.stmt.VariableTree.{VariableTree}
 use Rattle.bj_tree.specs.declared.stmt.StmtTree.{StmtTree}
 use Rattle.bj_tree.specs.declared.stmt.StmtTree.TheVariants as stmt
-use Rattle.bj_tree.specs.declared.stmt.StmtTree.TheOpen.{StmtTree-F}
-use Rattle.bj_tree.specs.declared.stmt.StmtTree.TheFolds.{fold-roll-StmtTree}
-use Rattle.bj_tree.specs.Size.{most, height_of}
-use Rattle.bj_stmt.specs.Heights.{variable_height, stmt_form, stmt_height}
+use Rattle.bj_expr.specs.Nodes.{all_beside, nodes_at, HasNode, first}
+use Rattle.bj_stmt.specs.Nodes.{option_nodes, variable_nodes, stmt_nodes_at, StmtHasNode, SomeStmtHasNode, SomeVariableHasNode}
+use Rattle.bj_stmt.proofs.StmtNodeForms as forms
 
--- the height of a list is that of its highest
-abbrev pub stmts_height : List StmtTree → ℕ
-stmts_height xs = most (map stmt_height xs)
+-- the same as `StmtHasNode` of what has its nodes by how many are above them
+abbrev pub Has : {A : Type 0} → (A → ℕ → List Span) → ℕ → Span → A → Type 0
+Has f n p a = (above : ℕ) × (n ≤ suc above) × Contains (f a above) p
 
-abbrev pub exprs_height : List ExprTree → ℕ
-exprs_height xs = most (map height_of xs)
+-- where the nodes of some stand, by how many are above them
+abbrev pub nodes_of : {A : Type 0} → (A → ℕ → List Span) → List A → ℕ → List Span
+nodes_of f xs = all_beside (map f xs)
 
-abbrev pub variables_height : List VariableTree → ℕ
-variables_height xs = most (map variable_height xs)
+abbrev pub SomeExprHasNode : ℕ → Span → List ExprTree → Type 0
+SomeExprHasNode n p xs = Has (nodes_of nodes_at) n p xs
 
-abbrev pub option_height : Option ExprTree → ℕ
-option_height x = unwrap_or (option_map height_of x) 0
+abbrev pub OptionHasNode : ℕ → Span → Option ExprTree → Type 0
+OptionHasNode n p x = Has option_nodes n p x
 
-most_end : (ns : List ℕ) (n : ℕ) → most (ns ++ n ∷ []) ≡ max (most ns) n
-most_end [] n = omega arith
-most_end (k ∷ ns) n = let h = most_end ns n in omega arith
+abbrev pub VariableHasNode : ℕ → Span → VariableTree → Type 0
+VariableHasNode n p x = Has variable_nodes n p x
 
-map_end : {A : Type 0} (f : A → ℕ) (xs : List A) (x : A) → map f (xs ++ x ∷ []) ≡ map f xs ++ f x ∷ []
-map_end f [] x = refl
-map_end f (y ∷ xs) x = ap (λ (ns : List ℕ). f y ∷ ns) (map_end f xs x)
+-- ---- lists
 
-pub height_end : {A : Type 0} (f : A → ℕ) (xs : List A) (x : A) → most (map f (xs ++ x ∷ [])) ≡ max (most (map f xs)) (f x)
-height_end f xs x = ap most (map_end f xs x) ∙ most_end (map f xs) (f x)
+-- what stands among the nodes of the last stands among those of all
+of_last : {A : Type 0} (f : A → ℕ → List Span) (xs : List A) (x : A) (above : ℕ) (p : Span) → Contains (f x above) p → Contains (nodes_of f (xs ++ x ∷ []) above) p
+of_last f [] x above p h = Contains-append_left (f x above) [] p h
+of_last f (y ∷ xs) x above p h = Contains-append_right (f y above) (nodes_of f (xs ++ x ∷ []) above) p (of_last f xs x above p h)
 
--- a list that has one that is too high is so, too
-pub tall_one : {A : Type 0} (f : A → ℕ) (n : ℕ) (x : A) (b : List A) → b ≡ x ∷ [] → n < f x → n < most (map f b)
-tall_one f n x b e h = let l = ap (λ xs. most (map f xs)) e in let k : most (map f (x ∷ [])) ≡ max (f x) 0 = refl in omega arith
+append_of : {A : Type 0} (f : A → ℕ → List Span) (xs : List A) (x : A) (above : ℕ) → nodes_of f (xs ++ x ∷ []) above ≡ nodes_of f xs above ++ f x above
+append_of f [] x above = append-nil (f x above)
+append_of f (y ∷ xs) x above = ap (λ (ps : List Span). f y above ++ ps) (append_of f xs x above) ∙ sym (append_assoc (f y above) (nodes_of f xs above) (f x above))
 
-pub tall_end : {A : Type 0} (f : A → ℕ) (n : ℕ) (xs : List A) (x : A) (b : List A) → b ≡ xs ++ x ∷ [] → n < f x → n < most (map f b)
-tall_end f n xs x b e h = let l = ap (λ ys. most (map f ys)) e in let k = height_end f xs x in omega arith
+of_first : {A : Type 0} (f : A → ℕ → List Span) (xs : List A) (x : A) (above : ℕ) (p : Span) → Contains (nodes_of f xs above) p → Contains (nodes_of f (xs ++ x ∷ []) above) p
+of_first f xs x above p h = subst (λ (ps : List Span). Contains ps p) (sym (append_of f xs x above)) (Contains-append_left (nodes_of f xs above) (f x above) p h)
 
-pub tall_before : {A : Type 0} (f : A → ℕ) (n : ℕ) (xs : List A) (x : A) (b : List A) → b ≡ xs ++ x ∷ [] → n < most (map f xs) → n < most (map f b)
-tall_before f n xs x b e h = let l = ap (λ ys. most (map f ys)) e in let k = height_end f xs x in omega arith
+-- what one of a list has, the list has
+pub tall_one : {A : Type 0} {p : Span} (f : A → ℕ → List Span) (n : ℕ) (x : A) (b : List A) → b ≡ x ∷ [] → Has f (suc n) p x → Has (nodes_of f) (suc n) p b
+tall_one {p} f n x b e h = subst (Has (nodes_of f) (suc n) p) (sym e) (h.0, h.1, of_last f [] x h.0 p h.2)
 
-pub block_height : (at : Span) (body : List StmtTree) (end : Span) → stmt_height (stmt.Block at body end) ≡ suc (stmts_height body)
-unfolding stmt_height
-block_height at body end = ap stmt_height (sym (stmt.rolls-Block at body end)) ∙ fold-roll-StmtTree ℕ stmt_form (StmtTree-F.Block at body end)
+pub tall_end : {A : Type 0} {p : Span} (f : A → ℕ → List Span) (n : ℕ) (xs : List A) (x : A) (b : List A) → b ≡ xs ++ x ∷ [] → Has f (suc n) p x → Has (nodes_of f) (suc n) p b
+tall_end {p} f n xs x b e h = subst (Has (nodes_of f) (suc n) p) (sym e) (h.0, h.1, of_last f xs x h.0 p h.2)
 
-pub tall_block_body : (n : ℕ) (at : Span) (body : List StmtTree) (end : Span) (b : StmtTree) → b ≡ stmt.Block at body end → n < stmts_height body → suc n < stmt_height b
-tall_block_body n at body end b e h = let x = ap stmt_height e in let y = block_height at body end in omega arith
+pub tall_before : {A : Type 0} {p : Span} (f : A → ℕ → List Span) (n : ℕ) (xs : List A) (x : A) (b : List A) → b ≡ xs ++ x ∷ [] → Has (nodes_of f) (suc n) p xs → Has (nodes_of f) (suc n) p b
+tall_before {p} f n xs x b e h = subst (Has (nodes_of f) (suc n) p) (sym e) (h.0, h.1, of_first f xs x h.0 p h.2)
 
-pub empty_height : (at : Span) → stmt_height (stmt.Empty at) ≡ 1
-unfolding stmt_height
-empty_height at = ap stmt_height (sym (stmt.rolls-Empty at)) ∙ fold-roll-StmtTree ℕ stmt_form (StmtTree-F.Empty at)
+-- ---- options and variables
 
-pub local_height : (at : Span) (is_final : Bool) (holds : TypeTree) (variables : List VariableTree) → stmt_height (stmt.Local at is_final holds variables) ≡ suc (variables_height variables)
-unfolding stmt_height
-local_height at is_final holds variables = ap stmt_height (sym (stmt.rolls-Local at is_final holds variables)) ∙ fold-roll-StmtTree ℕ stmt_form (StmtTree-F.Local at is_final holds variables)
+pub tall_some : {p : Span} (n : ℕ) (x : ExprTree) (b : Option ExprTree) → b ≡ Some x → HasNode (suc n) p x → OptionHasNode (suc n) p b
+tall_some {p} n x b e h = subst (OptionHasNode (suc n) p) (sym e) h
 
-pub tall_local_variables : (n : ℕ) (at : Span) (is_final : Bool) (holds : TypeTree) (variables : List VariableTree) (b : StmtTree) → b ≡ stmt.Local at is_final holds variables → n < variables_height variables → suc n < stmt_height b
-tall_local_variables n at is_final holds variables b e h = let x = ap stmt_height e in let y = local_height at is_final holds variables in omega arith
+pub tall_variable : {p : Span} (n : ℕ) (x : Option ExprTree) (v b : VariableTree) → v.init ≡ x → b ≡ v → OptionHasNode (suc n) p x → VariableHasNode (suc (suc n)) p b
+tall_variable {p} n x v b is e h =
+    subst (VariableHasNode (suc (suc n)) p) (sym e) (suc h.0, omega arith, subst (λ (y : Option ExprTree). Contains (option_nodes y h.0) p) (sym is) h.2)
 
-pub expression_height : (at : Span) (value : ExprTree) → stmt_height (stmt.Expression at value) ≡ suc (height_of value)
-unfolding stmt_height
-expression_height at value = ap stmt_height (sym (stmt.rolls-Expression at value)) ∙ fold-roll-StmtTree ℕ stmt_form (StmtTree-F.Expression at value)
+-- a list has what it begins with
+pub of_front : (ps : List Span) (at : Span) → first ps ≡ Some at → Contains ps at
+of_front [] at e = absurd (cc)
+of_front (x ∷ rest) at e = let is : x ≡ at = cc in (0, omega arith, is)
 
-pub tall_expression_value : (n : ℕ) (at : Span) (value : ExprTree) (b : StmtTree) → b ≡ stmt.Expression at value → n < height_of value → suc n < stmt_height b
-tall_expression_value n at value b e h = let x = ap stmt_height e in let y = expression_height at value in omega arith
+of_one : (at : Span) (ps : List Span) → Contains (at ∷ ps) at
+of_one at ps = (0, omega arith, refl)
 
-pub if_height : (at : Span) (test : ExprTree) (body : StmtTree) → stmt_height (stmt.If at test body) ≡ suc (max (height_of test) (stmt_height body))
-unfolding stmt_height
-if_height at test body = ap stmt_height (sym (stmt.rolls-If at test body)) ∙ fold-roll-StmtTree ℕ stmt_form (StmtTree-F.If at test body)
+pub variable_root : (at : Span) (v : VariableTree) → v.at ≡ at → VariableHasNode 1 at v
+variable_root at v is = (0, omega arith, (0, omega arith, is))
 
-pub tall_if_test : (n : ℕ) (at : Span) (test : ExprTree) (body : StmtTree) (b : StmtTree) → b ≡ stmt.If at test body → n < height_of test → suc n < stmt_height b
-tall_if_test n at test body b e h = let x = ap stmt_height e in let y = if_height at test body in omega arith
+-- ---- statements
 
-pub tall_if_body : (n : ℕ) (at : Span) (test : ExprTree) (body : StmtTree) (b : StmtTree) → b ≡ stmt.If at test body → n < stmt_height body → suc n < stmt_height b
-tall_if_body n at test body b e h = let x = ap stmt_height e in let y = if_height at test body in omega arith
+-- a node at the root
+pub rooted : (at : Span) (t b : StmtTree) → b ≡ t → stmt_nodes_at t 0 ≡ at ∷ [] → StmtHasNode 1 at b
+rooted at t b e is = subst (StmtHasNode 1 at) (sym e) (0, omega arith, subst (λ (ps : List Span). Contains ps at) (sym is) (of_one at []))
 
-pub ifelse_height : (at : Span) (test : ExprTree) (body : StmtTree) (other : StmtTree) → stmt_height (stmt.IfElse at test body other) ≡ suc (max (height_of test) (max (stmt_height body) (stmt_height other)))
-unfolding stmt_height
-ifelse_height at test body other = ap stmt_height (sym (stmt.rolls-IfElse at test body other)) ∙ fold-roll-StmtTree ℕ stmt_form (StmtTree-F.IfElse at test body other)
+-- what stands so deep stands less deep
+pub fewer : {A : Type 0} {p : Span} (f : A → ℕ → List Span) (n m : ℕ) (a : A) → n ≤ m → Has f m p a → Has f n p a
+fewer f n m a le h = (h.0, (let k = h.1 in omega arith), h.2)
 
-pub tall_ifelse_test : (n : ℕ) (at : Span) (test : ExprTree) (body : StmtTree) (other : StmtTree) (b : StmtTree) → b ≡ stmt.IfElse at test body other → n < height_of test → suc n < stmt_height b
-tall_ifelse_test n at test body other b e h = let x = ap stmt_height e in let y = ifelse_height at test body other in omega arith
+-- what stands in the list of nodes below a node stands one deeper in a statement
+below : {p : Span} (n above : ℕ) (ps : List Span) (t b : StmtTree) → b ≡ t → stmt_nodes_at t (suc above) ≡ ps → suc n ≤ suc above → Contains ps p → StmtHasNode (suc (suc n)) p b
+below {p} n above ps t b e is deep h = subst (StmtHasNode (suc (suc n)) p) (sym e) (suc above, omega arith, subst (λ (qs : List Span). Contains qs p) (sym is) h)
 
-pub tall_ifelse_body : (n : ℕ) (at : Span) (test : ExprTree) (body : StmtTree) (other : StmtTree) (b : StmtTree) → b ≡ stmt.IfElse at test body other → n < stmt_height body → suc n < stmt_height b
-tall_ifelse_body n at test body other b e h = let x = ap stmt_height e in let y = ifelse_height at test body other in omega arith
+pub tall_block_body : {p : Span} (n : ℕ) (at : Span) (body : List StmtTree) (end : Span) (b : StmtTree) → b ≡ stmt.Block at body end → SomeStmtHasNode (suc n) p body → StmtHasNode (suc (suc n)) p b
+tall_block_body {p} n at body end b e h = below n h.0 (all_beside (map stmt_nodes_at body) h.0) (stmt.Block at body end) b e (forms.block_below at body end h.0) h.1 h.2
 
-pub tall_ifelse_other : (n : ℕ) (at : Span) (test : ExprTree) (body : StmtTree) (other : StmtTree) (b : StmtTree) → b ≡ stmt.IfElse at test body other → n < stmt_height other → suc n < stmt_height b
-tall_ifelse_other n at test body other b e h = let x = ap stmt_height e in let y = ifelse_height at test body other in omega arith
+pub tall_local_variables : {p : Span} (n : ℕ) (at : Span) (is_final : Bool) (holds : TypeTree) (variables : List VariableTree) (b : StmtTree) → b ≡ stmt.Local at is_final holds variables → SomeVariableHasNode (suc n) p variables → StmtHasNode (suc (suc n)) p b
+tall_local_variables {p} n at is_final holds variables b e h = below n h.0 (all_beside (map variable_nodes variables) h.0) (stmt.Local at is_final holds variables) b e (forms.local_below at is_final holds variables h.0) h.1 h.2
 
-pub while_height : (at : Span) (test : ExprTree) (body : StmtTree) → stmt_height (stmt.While at test body) ≡ suc (max (height_of test) (stmt_height body))
-unfolding stmt_height
-while_height at test body = ap stmt_height (sym (stmt.rolls-While at test body)) ∙ fold-roll-StmtTree ℕ stmt_form (StmtTree-F.While at test body)
+pub tall_expression_value : {p : Span} (n : ℕ) (at : Span) (value : ExprTree) (b : StmtTree) → b ≡ stmt.Expression at value → HasNode (suc n) p value → StmtHasNode (suc (suc n)) p b
+tall_expression_value {p} n at value b e h = below n h.0 (nodes_at value h.0) (stmt.Expression at value) b e (forms.expression_below at value h.0) h.1 h.2
 
-pub tall_while_test : (n : ℕ) (at : Span) (test : ExprTree) (body : StmtTree) (b : StmtTree) → b ≡ stmt.While at test body → n < height_of test → suc n < stmt_height b
-tall_while_test n at test body b e h = let x = ap stmt_height e in let y = while_height at test body in omega arith
+pub tall_if_test : {p : Span} (n : ℕ) (at : Span) (test : ExprTree) (body : StmtTree) (b : StmtTree) → b ≡ stmt.If at test body → HasNode (suc n) p test → StmtHasNode (suc (suc n)) p b
+tall_if_test {p} n at test body b e h = below n h.0 (nodes_at test h.0 ++ stmt_nodes_at body h.0) (stmt.If at test body) b e (forms.if_below at test body h.0) h.1 (Contains-append_left (nodes_at test h.0) (stmt_nodes_at body h.0) p h.2)
 
-pub tall_while_body : (n : ℕ) (at : Span) (test : ExprTree) (body : StmtTree) (b : StmtTree) → b ≡ stmt.While at test body → n < stmt_height body → suc n < stmt_height b
-tall_while_body n at test body b e h = let x = ap stmt_height e in let y = while_height at test body in omega arith
+pub tall_if_body : {p : Span} (n : ℕ) (at : Span) (test : ExprTree) (body : StmtTree) (b : StmtTree) → b ≡ stmt.If at test body → StmtHasNode (suc n) p body → StmtHasNode (suc (suc n)) p b
+tall_if_body {p} n at test body b e h = below n h.0 (nodes_at test h.0 ++ stmt_nodes_at body h.0) (stmt.If at test body) b e (forms.if_below at test body h.0) h.1 (Contains-append_right (nodes_at test h.0) (stmt_nodes_at body h.0) p h.2)
 
-pub do_height : (at : Span) (body : StmtTree) (test : ExprTree) → stmt_height (stmt.Do at body test) ≡ suc (max (stmt_height body) (height_of test))
-unfolding stmt_height
-do_height at body test = ap stmt_height (sym (stmt.rolls-Do at body test)) ∙ fold-roll-StmtTree ℕ stmt_form (StmtTree-F.Do at body test)
+pub tall_ifelse_test : {p : Span} (n : ℕ) (at : Span) (test : ExprTree) (body : StmtTree) (other : StmtTree) (b : StmtTree) → b ≡ stmt.IfElse at test body other → HasNode (suc n) p test → StmtHasNode (suc (suc n)) p b
+tall_ifelse_test {p} n at test body other b e h = below n h.0 (nodes_at test h.0 ++ (stmt_nodes_at body h.0 ++ stmt_nodes_at other h.0)) (stmt.IfElse at test body other) b e (forms.ifelse_below at test body other h.0) h.1 (Contains-append_left (nodes_at test h.0) (stmt_nodes_at body h.0 ++ stmt_nodes_at other h.0) p h.2)
 
-pub tall_do_body : (n : ℕ) (at : Span) (body : StmtTree) (test : ExprTree) (b : StmtTree) → b ≡ stmt.Do at body test → n < stmt_height body → suc n < stmt_height b
-tall_do_body n at body test b e h = let x = ap stmt_height e in let y = do_height at body test in omega arith
+pub tall_ifelse_body : {p : Span} (n : ℕ) (at : Span) (test : ExprTree) (body : StmtTree) (other : StmtTree) (b : StmtTree) → b ≡ stmt.IfElse at test body other → StmtHasNode (suc n) p body → StmtHasNode (suc (suc n)) p b
+tall_ifelse_body {p} n at test body other b e h = below n h.0 (nodes_at test h.0 ++ (stmt_nodes_at body h.0 ++ stmt_nodes_at other h.0)) (stmt.IfElse at test body other) b e (forms.ifelse_below at test body other h.0) h.1 (Contains-append_right (nodes_at test h.0) (stmt_nodes_at body h.0 ++ stmt_nodes_at other h.0) p (Contains-append_left (stmt_nodes_at body h.0) (stmt_nodes_at other h.0) p h.2))
 
-pub tall_do_test : (n : ℕ) (at : Span) (body : StmtTree) (test : ExprTree) (b : StmtTree) → b ≡ stmt.Do at body test → n < height_of test → suc n < stmt_height b
-tall_do_test n at body test b e h = let x = ap stmt_height e in let y = do_height at body test in omega arith
+pub tall_ifelse_other : {p : Span} (n : ℕ) (at : Span) (test : ExprTree) (body : StmtTree) (other : StmtTree) (b : StmtTree) → b ≡ stmt.IfElse at test body other → StmtHasNode (suc n) p other → StmtHasNode (suc (suc n)) p b
+tall_ifelse_other {p} n at test body other b e h = below n h.0 (nodes_at test h.0 ++ (stmt_nodes_at body h.0 ++ stmt_nodes_at other h.0)) (stmt.IfElse at test body other) b e (forms.ifelse_below at test body other h.0) h.1 (Contains-append_right (nodes_at test h.0) (stmt_nodes_at body h.0 ++ stmt_nodes_at other h.0) p (Contains-append_right (stmt_nodes_at body h.0) (stmt_nodes_at other h.0) p h.2))
 
-pub for_height : (at : Span) (init : List StmtTree) (test : Option ExprTree) (update : List ExprTree) (body : StmtTree) → stmt_height (stmt.For at init test update body) ≡ suc (max (stmts_height init) (max (option_height test) (max (exprs_height update) (stmt_height body))))
-unfolding stmt_height
-for_height at init test update body = ap stmt_height (sym (stmt.rolls-For at init test update body)) ∙ fold-roll-StmtTree ℕ stmt_form (StmtTree-F.For at init test update body)
+pub tall_while_test : {p : Span} (n : ℕ) (at : Span) (test : ExprTree) (body : StmtTree) (b : StmtTree) → b ≡ stmt.While at test body → HasNode (suc n) p test → StmtHasNode (suc (suc n)) p b
+tall_while_test {p} n at test body b e h = below n h.0 (nodes_at test h.0 ++ stmt_nodes_at body h.0) (stmt.While at test body) b e (forms.while_below at test body h.0) h.1 (Contains-append_left (nodes_at test h.0) (stmt_nodes_at body h.0) p h.2)
 
-pub tall_for_init : (n : ℕ) (at : Span) (init : List StmtTree) (test : Option ExprTree) (update : List ExprTree) (body : StmtTree) (b : StmtTree) → b ≡ stmt.For at init test update body → n < stmts_height init → suc n < stmt_height b
-tall_for_init n at init test update body b e h = let x = ap stmt_height e in let y = for_height at init test update body in omega arith
+pub tall_while_body : {p : Span} (n : ℕ) (at : Span) (test : ExprTree) (body : StmtTree) (b : StmtTree) → b ≡ stmt.While at test body → StmtHasNode (suc n) p body → StmtHasNode (suc (suc n)) p b
+tall_while_body {p} n at test body b e h = below n h.0 (nodes_at test h.0 ++ stmt_nodes_at body h.0) (stmt.While at test body) b e (forms.while_below at test body h.0) h.1 (Contains-append_right (nodes_at test h.0) (stmt_nodes_at body h.0) p h.2)
 
-pub tall_for_test : (n : ℕ) (at : Span) (init : List StmtTree) (test : Option ExprTree) (update : List ExprTree) (body : StmtTree) (b : StmtTree) → b ≡ stmt.For at init test update body → n < option_height test → suc n < stmt_height b
-tall_for_test n at init test update body b e h = let x = ap stmt_height e in let y = for_height at init test update body in omega arith
+pub tall_do_body : {p : Span} (n : ℕ) (at : Span) (body : StmtTree) (test : ExprTree) (b : StmtTree) → b ≡ stmt.Do at body test → StmtHasNode (suc n) p body → StmtHasNode (suc (suc n)) p b
+tall_do_body {p} n at body test b e h = below n h.0 (stmt_nodes_at body h.0 ++ nodes_at test h.0) (stmt.Do at body test) b e (forms.do_below at body test h.0) h.1 (Contains-append_left (stmt_nodes_at body h.0) (nodes_at test h.0) p h.2)
 
-pub tall_for_update : (n : ℕ) (at : Span) (init : List StmtTree) (test : Option ExprTree) (update : List ExprTree) (body : StmtTree) (b : StmtTree) → b ≡ stmt.For at init test update body → n < exprs_height update → suc n < stmt_height b
-tall_for_update n at init test update body b e h = let x = ap stmt_height e in let y = for_height at init test update body in omega arith
+pub tall_do_test : {p : Span} (n : ℕ) (at : Span) (body : StmtTree) (test : ExprTree) (b : StmtTree) → b ≡ stmt.Do at body test → HasNode (suc n) p test → StmtHasNode (suc (suc n)) p b
+tall_do_test {p} n at body test b e h = below n h.0 (stmt_nodes_at body h.0 ++ nodes_at test h.0) (stmt.Do at body test) b e (forms.do_below at body test h.0) h.1 (Contains-append_right (stmt_nodes_at body h.0) (nodes_at test h.0) p h.2)
 
-pub tall_for_body : (n : ℕ) (at : Span) (init : List StmtTree) (test : Option ExprTree) (update : List ExprTree) (body : StmtTree) (b : StmtTree) → b ≡ stmt.For at init test update body → n < stmt_height body → suc n < stmt_height b
-tall_for_body n at init test update body b e h = let x = ap stmt_height e in let y = for_height at init test update body in omega arith
+pub tall_for_init : {p : Span} (n : ℕ) (at : Span) (init : List StmtTree) (test : Option ExprTree) (update : List ExprTree) (body : StmtTree) (b : StmtTree) → b ≡ stmt.For at init test update body → SomeStmtHasNode (suc n) p init → StmtHasNode (suc (suc n)) p b
+tall_for_init {p} n at init test update body b e h = below n h.0 (all_beside (map stmt_nodes_at init) h.0 ++ (option_nodes test h.0 ++ (all_beside (map nodes_at update) h.0 ++ stmt_nodes_at body h.0))) (stmt.For at init test update body) b e (forms.for_below at init test update body h.0) h.1 (Contains-append_left (all_beside (map stmt_nodes_at init) h.0) (option_nodes test h.0 ++ (all_beside (map nodes_at update) h.0 ++ stmt_nodes_at body h.0)) p h.2)
 
-pub foreach_height : (at : Span) (is_final : Bool) (holds : TypeTree) (name : NamedPlace) (ranges : ExprTree) (body : StmtTree) → stmt_height (stmt.ForEach at is_final holds name ranges body) ≡ suc (max (height_of ranges) (stmt_height body))
-unfolding stmt_height
-foreach_height at is_final holds name ranges body = ap stmt_height (sym (stmt.rolls-ForEach at is_final holds name ranges body)) ∙ fold-roll-StmtTree ℕ stmt_form (StmtTree-F.ForEach at is_final holds name ranges body)
+pub tall_for_test : {p : Span} (n : ℕ) (at : Span) (init : List StmtTree) (test : Option ExprTree) (update : List ExprTree) (body : StmtTree) (b : StmtTree) → b ≡ stmt.For at init test update body → OptionHasNode (suc n) p test → StmtHasNode (suc (suc n)) p b
+tall_for_test {p} n at init test update body b e h = below n h.0 (all_beside (map stmt_nodes_at init) h.0 ++ (option_nodes test h.0 ++ (all_beside (map nodes_at update) h.0 ++ stmt_nodes_at body h.0))) (stmt.For at init test update body) b e (forms.for_below at init test update body h.0) h.1 (Contains-append_right (all_beside (map stmt_nodes_at init) h.0) (option_nodes test h.0 ++ (all_beside (map nodes_at update) h.0 ++ stmt_nodes_at body h.0)) p (Contains-append_left (option_nodes test h.0) (all_beside (map nodes_at update) h.0 ++ stmt_nodes_at body h.0) p h.2))
 
-pub tall_foreach_ranges : (n : ℕ) (at : Span) (is_final : Bool) (holds : TypeTree) (name : NamedPlace) (ranges : ExprTree) (body : StmtTree) (b : StmtTree) → b ≡ stmt.ForEach at is_final holds name ranges body → n < height_of ranges → suc n < stmt_height b
-tall_foreach_ranges n at is_final holds name ranges body b e h = let x = ap stmt_height e in let y = foreach_height at is_final holds name ranges body in omega arith
+pub tall_for_update : {p : Span} (n : ℕ) (at : Span) (init : List StmtTree) (test : Option ExprTree) (update : List ExprTree) (body : StmtTree) (b : StmtTree) → b ≡ stmt.For at init test update body → SomeExprHasNode (suc n) p update → StmtHasNode (suc (suc n)) p b
+tall_for_update {p} n at init test update body b e h = below n h.0 (all_beside (map stmt_nodes_at init) h.0 ++ (option_nodes test h.0 ++ (all_beside (map nodes_at update) h.0 ++ stmt_nodes_at body h.0))) (stmt.For at init test update body) b e (forms.for_below at init test update body h.0) h.1 (Contains-append_right (all_beside (map stmt_nodes_at init) h.0) (option_nodes test h.0 ++ (all_beside (map nodes_at update) h.0 ++ stmt_nodes_at body h.0)) p (Contains-append_right (option_nodes test h.0) (all_beside (map nodes_at update) h.0 ++ stmt_nodes_at body h.0) p (Contains-append_left (all_beside (map nodes_at update) h.0) (stmt_nodes_at body h.0) p h.2)))
 
-pub tall_foreach_body : (n : ℕ) (at : Span) (is_final : Bool) (holds : TypeTree) (name : NamedPlace) (ranges : ExprTree) (body : StmtTree) (b : StmtTree) → b ≡ stmt.ForEach at is_final holds name ranges body → n < stmt_height body → suc n < stmt_height b
-tall_foreach_body n at is_final holds name ranges body b e h = let x = ap stmt_height e in let y = foreach_height at is_final holds name ranges body in omega arith
+pub tall_for_body : {p : Span} (n : ℕ) (at : Span) (init : List StmtTree) (test : Option ExprTree) (update : List ExprTree) (body : StmtTree) (b : StmtTree) → b ≡ stmt.For at init test update body → StmtHasNode (suc n) p body → StmtHasNode (suc (suc n)) p b
+tall_for_body {p} n at init test update body b e h = below n h.0 (all_beside (map stmt_nodes_at init) h.0 ++ (option_nodes test h.0 ++ (all_beside (map nodes_at update) h.0 ++ stmt_nodes_at body h.0))) (stmt.For at init test update body) b e (forms.for_below at init test update body h.0) h.1 (Contains-append_right (all_beside (map stmt_nodes_at init) h.0) (option_nodes test h.0 ++ (all_beside (map nodes_at update) h.0 ++ stmt_nodes_at body h.0)) p (Contains-append_right (option_nodes test h.0) (all_beside (map nodes_at update) h.0 ++ stmt_nodes_at body h.0) p (Contains-append_right (all_beside (map nodes_at update) h.0) (stmt_nodes_at body h.0) p h.2)))
 
-pub switch_height : (at : Span) (value : ExprTree) (members : List StmtTree) → stmt_height (stmt.Switch at value members) ≡ suc (max (height_of value) (stmts_height members))
-unfolding stmt_height
-switch_height at value members = ap stmt_height (sym (stmt.rolls-Switch at value members)) ∙ fold-roll-StmtTree ℕ stmt_form (StmtTree-F.Switch at value members)
+pub tall_foreach_ranges : {p : Span} (n : ℕ) (at : Span) (is_final : Bool) (holds : TypeTree) (name : NamedPlace) (ranges : ExprTree) (body : StmtTree) (b : StmtTree) → b ≡ stmt.ForEach at is_final holds name ranges body → HasNode (suc n) p ranges → StmtHasNode (suc (suc n)) p b
+tall_foreach_ranges {p} n at is_final holds name ranges body b e h = below n h.0 (nodes_at ranges h.0 ++ stmt_nodes_at body h.0) (stmt.ForEach at is_final holds name ranges body) b e (forms.foreach_below at is_final holds name ranges body h.0) h.1 (Contains-append_left (nodes_at ranges h.0) (stmt_nodes_at body h.0) p h.2)
 
-pub tall_switch_value : (n : ℕ) (at : Span) (value : ExprTree) (members : List StmtTree) (b : StmtTree) → b ≡ stmt.Switch at value members → n < height_of value → suc n < stmt_height b
-tall_switch_value n at value members b e h = let x = ap stmt_height e in let y = switch_height at value members in omega arith
+pub tall_foreach_body : {p : Span} (n : ℕ) (at : Span) (is_final : Bool) (holds : TypeTree) (name : NamedPlace) (ranges : ExprTree) (body : StmtTree) (b : StmtTree) → b ≡ stmt.ForEach at is_final holds name ranges body → StmtHasNode (suc n) p body → StmtHasNode (suc (suc n)) p b
+tall_foreach_body {p} n at is_final holds name ranges body b e h = below n h.0 (nodes_at ranges h.0 ++ stmt_nodes_at body h.0) (stmt.ForEach at is_final holds name ranges body) b e (forms.foreach_below at is_final holds name ranges body h.0) h.1 (Contains-append_right (nodes_at ranges h.0) (stmt_nodes_at body h.0) p h.2)
 
-pub tall_switch_members : (n : ℕ) (at : Span) (value : ExprTree) (members : List StmtTree) (b : StmtTree) → b ≡ stmt.Switch at value members → n < stmts_height members → suc n < stmt_height b
-tall_switch_members n at value members b e h = let x = ap stmt_height e in let y = switch_height at value members in omega arith
+pub tall_switch_value : {p : Span} (n : ℕ) (at : Span) (value : ExprTree) (members : List StmtTree) (b : StmtTree) → b ≡ stmt.Switch at value members → HasNode (suc n) p value → StmtHasNode (suc (suc n)) p b
+tall_switch_value {p} n at value members b e h = below n h.0 (nodes_at value h.0 ++ all_beside (map stmt_nodes_at members) h.0) (stmt.Switch at value members) b e (forms.switch_below at value members h.0) h.1 (Contains-append_left (nodes_at value h.0) (all_beside (map stmt_nodes_at members) h.0) p h.2)
 
-pub case_height : (at : Span) (value : ExprTree) → stmt_height (stmt.Case at value) ≡ suc (height_of value)
-unfolding stmt_height
-case_height at value = ap stmt_height (sym (stmt.rolls-Case at value)) ∙ fold-roll-StmtTree ℕ stmt_form (StmtTree-F.Case at value)
+pub tall_switch_members : {p : Span} (n : ℕ) (at : Span) (value : ExprTree) (members : List StmtTree) (b : StmtTree) → b ≡ stmt.Switch at value members → SomeStmtHasNode (suc n) p members → StmtHasNode (suc (suc n)) p b
+tall_switch_members {p} n at value members b e h = below n h.0 (nodes_at value h.0 ++ all_beside (map stmt_nodes_at members) h.0) (stmt.Switch at value members) b e (forms.switch_below at value members h.0) h.1 (Contains-append_right (nodes_at value h.0) (all_beside (map stmt_nodes_at members) h.0) p h.2)
 
-pub tall_case_value : (n : ℕ) (at : Span) (value : ExprTree) (b : StmtTree) → b ≡ stmt.Case at value → n < height_of value → suc n < stmt_height b
-tall_case_value n at value b e h = let x = ap stmt_height e in let y = case_height at value in omega arith
+pub tall_case_value : {p : Span} (n : ℕ) (at : Span) (value : ExprTree) (b : StmtTree) → b ≡ stmt.Case at value → HasNode (suc n) p value → StmtHasNode (suc (suc n)) p b
+tall_case_value {p} n at value b e h = below n h.0 (nodes_at value h.0) (stmt.Case at value) b e (forms.case_below at value h.0) h.1 h.2
 
-pub default_height : (at : Span) → stmt_height (stmt.Default at) ≡ 1
-unfolding stmt_height
-default_height at = ap stmt_height (sym (stmt.rolls-Default at)) ∙ fold-roll-StmtTree ℕ stmt_form (StmtTree-F.Default at)
+pub tall_labelled_body : {p : Span} (n : ℕ) (at : Span) (label : List ℕ) (body : StmtTree) (b : StmtTree) → b ≡ stmt.Labelled at label body → StmtHasNode (suc n) p body → StmtHasNode (suc (suc n)) p b
+tall_labelled_body {p} n at label body b e h = below n h.0 (stmt_nodes_at body h.0) (stmt.Labelled at label body) b e (forms.labelled_below at label body h.0) h.1 h.2
 
-pub labelled_height : (at : Span) (label : List ℕ) (body : StmtTree) → stmt_height (stmt.Labelled at label body) ≡ suc (stmt_height body)
-unfolding stmt_height
-labelled_height at label body = ap stmt_height (sym (stmt.rolls-Labelled at label body)) ∙ fold-roll-StmtTree ℕ stmt_form (StmtTree-F.Labelled at label body)
+pub tall_return_value : {p : Span} (n : ℕ) (at : Span) (value : Option ExprTree) (b : StmtTree) → b ≡ stmt.Return at value → OptionHasNode (suc n) p value → StmtHasNode (suc (suc n)) p b
+tall_return_value {p} n at value b e h = below n h.0 (option_nodes value h.0) (stmt.Return at value) b e (forms.return_below at value h.0) h.1 h.2
 
-pub tall_labelled_body : (n : ℕ) (at : Span) (label : List ℕ) (body : StmtTree) (b : StmtTree) → b ≡ stmt.Labelled at label body → n < stmt_height body → suc n < stmt_height b
-tall_labelled_body n at label body b e h = let x = ap stmt_height e in let y = labelled_height at label body in omega arith
+pub tall_throw_value : {p : Span} (n : ℕ) (at : Span) (value : ExprTree) (b : StmtTree) → b ≡ stmt.Throw at value → HasNode (suc n) p value → StmtHasNode (suc (suc n)) p b
+tall_throw_value {p} n at value b e h = below n h.0 (nodes_at value h.0) (stmt.Throw at value) b e (forms.throw_below at value h.0) h.1 h.2
 
-pub break_height : (at : Span) (label : Option NamedPlace) → stmt_height (stmt.Break at label) ≡ 1
-unfolding stmt_height
-break_height at label = ap stmt_height (sym (stmt.rolls-Break at label)) ∙ fold-roll-StmtTree ℕ stmt_form (StmtTree-F.Break at label)
+pub tall_synchronized_lock : {p : Span} (n : ℕ) (at : Span) (lock : ExprTree) (body : StmtTree) (b : StmtTree) → b ≡ stmt.Synchronized at lock body → HasNode (suc n) p lock → StmtHasNode (suc (suc n)) p b
+tall_synchronized_lock {p} n at lock body b e h = below n h.0 (nodes_at lock h.0 ++ stmt_nodes_at body h.0) (stmt.Synchronized at lock body) b e (forms.synchronized_below at lock body h.0) h.1 (Contains-append_left (nodes_at lock h.0) (stmt_nodes_at body h.0) p h.2)
 
-pub continue_height : (at : Span) (label : Option NamedPlace) → stmt_height (stmt.Continue at label) ≡ 1
-unfolding stmt_height
-continue_height at label = ap stmt_height (sym (stmt.rolls-Continue at label)) ∙ fold-roll-StmtTree ℕ stmt_form (StmtTree-F.Continue at label)
+pub tall_synchronized_body : {p : Span} (n : ℕ) (at : Span) (lock : ExprTree) (body : StmtTree) (b : StmtTree) → b ≡ stmt.Synchronized at lock body → StmtHasNode (suc n) p body → StmtHasNode (suc (suc n)) p b
+tall_synchronized_body {p} n at lock body b e h = below n h.0 (nodes_at lock h.0 ++ stmt_nodes_at body h.0) (stmt.Synchronized at lock body) b e (forms.synchronized_below at lock body h.0) h.1 (Contains-append_right (nodes_at lock h.0) (stmt_nodes_at body h.0) p h.2)
 
-pub return_height : (at : Span) (value : Option ExprTree) → stmt_height (stmt.Return at value) ≡ suc (option_height value)
-unfolding stmt_height
-return_height at value = ap stmt_height (sym (stmt.rolls-Return at value)) ∙ fold-roll-StmtTree ℕ stmt_form (StmtTree-F.Return at value)
+pub tall_synchronizedclass_body : {p : Span} (n : ℕ) (at : Span) (class : NamedPlace) (body : StmtTree) (b : StmtTree) → b ≡ stmt.SynchronizedClass at class body → StmtHasNode (suc n) p body → StmtHasNode (suc (suc n)) p b
+tall_synchronizedclass_body {p} n at class body b e h = below n h.0 (stmt_nodes_at body h.0) (stmt.SynchronizedClass at class body) b e (forms.synchronizedclass_below at class body h.0) h.1 h.2
 
-pub tall_return_value : (n : ℕ) (at : Span) (value : Option ExprTree) (b : StmtTree) → b ≡ stmt.Return at value → n < option_height value → suc n < stmt_height b
-tall_return_value n at value b e h = let x = ap stmt_height e in let y = return_height at value in omega arith
+pub tall_try_body : {p : Span} (n : ℕ) (at : Span) (body : StmtTree) (catches : List StmtTree) (b : StmtTree) → b ≡ stmt.Try at body catches → StmtHasNode (suc n) p body → StmtHasNode (suc (suc n)) p b
+tall_try_body {p} n at body catches b e h = below n h.0 (stmt_nodes_at body h.0 ++ all_beside (map stmt_nodes_at catches) h.0) (stmt.Try at body catches) b e (forms.try_below at body catches h.0) h.1 (Contains-append_left (stmt_nodes_at body h.0) (all_beside (map stmt_nodes_at catches) h.0) p h.2)
 
-pub throw_height : (at : Span) (value : ExprTree) → stmt_height (stmt.Throw at value) ≡ suc (height_of value)
-unfolding stmt_height
-throw_height at value = ap stmt_height (sym (stmt.rolls-Throw at value)) ∙ fold-roll-StmtTree ℕ stmt_form (StmtTree-F.Throw at value)
+pub tall_try_catches : {p : Span} (n : ℕ) (at : Span) (body : StmtTree) (catches : List StmtTree) (b : StmtTree) → b ≡ stmt.Try at body catches → SomeStmtHasNode (suc n) p catches → StmtHasNode (suc (suc n)) p b
+tall_try_catches {p} n at body catches b e h = below n h.0 (stmt_nodes_at body h.0 ++ all_beside (map stmt_nodes_at catches) h.0) (stmt.Try at body catches) b e (forms.try_below at body catches h.0) h.1 (Contains-append_right (stmt_nodes_at body h.0) (all_beside (map stmt_nodes_at catches) h.0) p h.2)
 
-pub tall_throw_value : (n : ℕ) (at : Span) (value : ExprTree) (b : StmtTree) → b ≡ stmt.Throw at value → n < height_of value → suc n < stmt_height b
-tall_throw_value n at value b e h = let x = ap stmt_height e in let y = throw_height at value in omega arith
+pub tall_tryfinally_body : {p : Span} (n : ℕ) (at : Span) (body : StmtTree) (catches : List StmtTree) (finally : StmtTree) (b : StmtTree) → b ≡ stmt.TryFinally at body catches finally → StmtHasNode (suc n) p body → StmtHasNode (suc (suc n)) p b
+tall_tryfinally_body {p} n at body catches finally b e h = below n h.0 (stmt_nodes_at body h.0 ++ (all_beside (map stmt_nodes_at catches) h.0 ++ stmt_nodes_at finally h.0)) (stmt.TryFinally at body catches finally) b e (forms.tryfinally_below at body catches finally h.0) h.1 (Contains-append_left (stmt_nodes_at body h.0) (all_beside (map stmt_nodes_at catches) h.0 ++ stmt_nodes_at finally h.0) p h.2)
 
-pub synchronized_height : (at : Span) (lock : ExprTree) (body : StmtTree) → stmt_height (stmt.Synchronized at lock body) ≡ suc (max (height_of lock) (stmt_height body))
-unfolding stmt_height
-synchronized_height at lock body = ap stmt_height (sym (stmt.rolls-Synchronized at lock body)) ∙ fold-roll-StmtTree ℕ stmt_form (StmtTree-F.Synchronized at lock body)
+pub tall_tryfinally_catches : {p : Span} (n : ℕ) (at : Span) (body : StmtTree) (catches : List StmtTree) (finally : StmtTree) (b : StmtTree) → b ≡ stmt.TryFinally at body catches finally → SomeStmtHasNode (suc n) p catches → StmtHasNode (suc (suc n)) p b
+tall_tryfinally_catches {p} n at body catches finally b e h = below n h.0 (stmt_nodes_at body h.0 ++ (all_beside (map stmt_nodes_at catches) h.0 ++ stmt_nodes_at finally h.0)) (stmt.TryFinally at body catches finally) b e (forms.tryfinally_below at body catches finally h.0) h.1 (Contains-append_right (stmt_nodes_at body h.0) (all_beside (map stmt_nodes_at catches) h.0 ++ stmt_nodes_at finally h.0) p (Contains-append_left (all_beside (map stmt_nodes_at catches) h.0) (stmt_nodes_at finally h.0) p h.2))
 
-pub tall_synchronized_lock : (n : ℕ) (at : Span) (lock : ExprTree) (body : StmtTree) (b : StmtTree) → b ≡ stmt.Synchronized at lock body → n < height_of lock → suc n < stmt_height b
-tall_synchronized_lock n at lock body b e h = let x = ap stmt_height e in let y = synchronized_height at lock body in omega arith
+pub tall_tryfinally_finally : {p : Span} (n : ℕ) (at : Span) (body : StmtTree) (catches : List StmtTree) (finally : StmtTree) (b : StmtTree) → b ≡ stmt.TryFinally at body catches finally → StmtHasNode (suc n) p finally → StmtHasNode (suc (suc n)) p b
+tall_tryfinally_finally {p} n at body catches finally b e h = below n h.0 (stmt_nodes_at body h.0 ++ (all_beside (map stmt_nodes_at catches) h.0 ++ stmt_nodes_at finally h.0)) (stmt.TryFinally at body catches finally) b e (forms.tryfinally_below at body catches finally h.0) h.1 (Contains-append_right (stmt_nodes_at body h.0) (all_beside (map stmt_nodes_at catches) h.0 ++ stmt_nodes_at finally h.0) p (Contains-append_right (all_beside (map stmt_nodes_at catches) h.0) (stmt_nodes_at finally h.0) p h.2))
 
-pub tall_synchronized_body : (n : ℕ) (at : Span) (lock : ExprTree) (body : StmtTree) (b : StmtTree) → b ≡ stmt.Synchronized at lock body → n < stmt_height body → suc n < stmt_height b
-tall_synchronized_body n at lock body b e h = let x = ap stmt_height e in let y = synchronized_height at lock body in omega arith
+pub tall_catch_body : {p : Span} (n : ℕ) (at : Span) (is_final : Bool) (types : List TypeTree) (name : NamedPlace) (body : StmtTree) (b : StmtTree) → b ≡ stmt.Catch at is_final types name body → StmtHasNode (suc n) p body → StmtHasNode (suc (suc n)) p b
+tall_catch_body {p} n at is_final types name body b e h = below n h.0 (stmt_nodes_at body h.0) (stmt.Catch at is_final types name body) b e (forms.catch_below at is_final types name body h.0) h.1 h.2
 
-pub synchronizedclass_height : (at : Span) (class : NamedPlace) (body : StmtTree) → stmt_height (stmt.SynchronizedClass at class body) ≡ suc (stmt_height body)
-unfolding stmt_height
-synchronizedclass_height at class body = ap stmt_height (sym (stmt.rolls-SynchronizedClass at class body)) ∙ fold-roll-StmtTree ℕ stmt_form (StmtTree-F.SynchronizedClass at class body)
-
-pub tall_synchronizedclass_body : (n : ℕ) (at : Span) (class : NamedPlace) (body : StmtTree) (b : StmtTree) → b ≡ stmt.SynchronizedClass at class body → n < stmt_height body → suc n < stmt_height b
-tall_synchronizedclass_body n at class body b e h = let x = ap stmt_height e in let y = synchronizedclass_height at class body in omega arith
-
-pub try_height : (at : Span) (body : StmtTree) (catches : List StmtTree) → stmt_height (stmt.Try at body catches) ≡ suc (max (stmt_height body) (stmts_height catches))
-unfolding stmt_height
-try_height at body catches = ap stmt_height (sym (stmt.rolls-Try at body catches)) ∙ fold-roll-StmtTree ℕ stmt_form (StmtTree-F.Try at body catches)
-
-pub tall_try_body : (n : ℕ) (at : Span) (body : StmtTree) (catches : List StmtTree) (b : StmtTree) → b ≡ stmt.Try at body catches → n < stmt_height body → suc n < stmt_height b
-tall_try_body n at body catches b e h = let x = ap stmt_height e in let y = try_height at body catches in omega arith
-
-pub tall_try_catches : (n : ℕ) (at : Span) (body : StmtTree) (catches : List StmtTree) (b : StmtTree) → b ≡ stmt.Try at body catches → n < stmts_height catches → suc n < stmt_height b
-tall_try_catches n at body catches b e h = let x = ap stmt_height e in let y = try_height at body catches in omega arith
-
-pub tryfinally_height : (at : Span) (body : StmtTree) (catches : List StmtTree) (finally : StmtTree) → stmt_height (stmt.TryFinally at body catches finally) ≡ suc (max (stmt_height body) (max (stmts_height catches) (stmt_height finally)))
-unfolding stmt_height
-tryfinally_height at body catches finally = ap stmt_height (sym (stmt.rolls-TryFinally at body catches finally)) ∙ fold-roll-StmtTree ℕ stmt_form (StmtTree-F.TryFinally at body catches finally)
-
-pub tall_tryfinally_body : (n : ℕ) (at : Span) (body : StmtTree) (catches : List StmtTree) (finally : StmtTree) (b : StmtTree) → b ≡ stmt.TryFinally at body catches finally → n < stmt_height body → suc n < stmt_height b
-tall_tryfinally_body n at body catches finally b e h = let x = ap stmt_height e in let y = tryfinally_height at body catches finally in omega arith
-
-pub tall_tryfinally_catches : (n : ℕ) (at : Span) (body : StmtTree) (catches : List StmtTree) (finally : StmtTree) (b : StmtTree) → b ≡ stmt.TryFinally at body catches finally → n < stmts_height catches → suc n < stmt_height b
-tall_tryfinally_catches n at body catches finally b e h = let x = ap stmt_height e in let y = tryfinally_height at body catches finally in omega arith
-
-pub tall_tryfinally_finally : (n : ℕ) (at : Span) (body : StmtTree) (catches : List StmtTree) (finally : StmtTree) (b : StmtTree) → b ≡ stmt.TryFinally at body catches finally → n < stmt_height finally → suc n < stmt_height b
-tall_tryfinally_finally n at body catches finally b e h = let x = ap stmt_height e in let y = tryfinally_height at body catches finally in omega arith
-
-pub catch_height : (at : Span) (is_final : Bool) (types : List TypeTree) (name : NamedPlace) (body : StmtTree) → stmt_height (stmt.Catch at is_final types name body) ≡ suc (stmt_height body)
-unfolding stmt_height
-catch_height at is_final types name body = ap stmt_height (sym (stmt.rolls-Catch at is_final types name body)) ∙ fold-roll-StmtTree ℕ stmt_form (StmtTree-F.Catch at is_final types name body)
-
-pub tall_catch_body : (n : ℕ) (at : Span) (is_final : Bool) (types : List TypeTree) (name : NamedPlace) (body : StmtTree) (b : StmtTree) → b ≡ stmt.Catch at is_final types name body → n < stmt_height body → suc n < stmt_height b
-tall_catch_body n at is_final types name body b e h = let x = ap stmt_height e in let y = catch_height at is_final types name body in omega arith
-
-pub constructorcall_height : (at : Span) (is_super : Bool) (args : List ExprTree) → stmt_height (stmt.ConstructorCall at is_super args) ≡ suc (exprs_height args)
-unfolding stmt_height
-constructorcall_height at is_super args = ap stmt_height (sym (stmt.rolls-ConstructorCall at is_super args)) ∙ fold-roll-StmtTree ℕ stmt_form (StmtTree-F.ConstructorCall at is_super args)
-
-pub tall_constructorcall_args : (n : ℕ) (at : Span) (is_super : Bool) (args : List ExprTree) (b : StmtTree) → b ≡ stmt.ConstructorCall at is_super args → n < exprs_height args → suc n < stmt_height b
-tall_constructorcall_args n at is_super args b e h = let x = ap stmt_height e in let y = constructorcall_height at is_super args in omega arith
+pub tall_constructorcall_args : {p : Span} (n : ℕ) (at : Span) (is_super : Bool) (args : List ExprTree) (b : StmtTree) → b ≡ stmt.ConstructorCall at is_super args → SomeExprHasNode (suc n) p args → StmtHasNode (suc (suc n)) p b
+tall_constructorcall_args {p} n at is_super args b e h = below n h.0 (all_beside (map nodes_at args) h.0) (stmt.ConstructorCall at is_super args) b e (forms.constructorcall_below at is_super args h.0) h.1 h.2

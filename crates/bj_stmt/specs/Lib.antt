@@ -1,4 +1,5 @@
 pub mod Grammar
 pub mod Reading
 pub mod Heights
+pub mod Nodes
 pub mod Given

@@ -1,5 +1,5 @@
 -- The reader of statements, as a function on texts.
-use Rattle.std.specs.Prelude.{ℕ, zero, suc, Bool, true, false, not, ◌&&◌, ◌||◌, if◌then◌else◌, List, [], ◌∷◌, ◌++◌, Option, Some, None}
+use Rattle.std.specs.Prelude.{ℕ, zero, suc, Bool, true, false, not, ◌-◌, ◌&&◌, ◌||◌, if◌then◌else◌, List, [], ◌∷◌, ◌++◌, Option, Some, None}
 use Rattle.bj_core.specs.declared.types.Span.{Span}
 use Rattle.bj_tree.specs.declared.types.NamedPlace.{NamedPlace}
 use Rattle.bj_tree.specs.declared.types.TypeTree.{TypeTree}
@@ -12,11 +12,10 @@ use Rattle.bj_grammar.specs.declared.terminal.Terminal.{Terminal}
 use Rattle.bj_grammar.specs.declared.terminal.Terminal.TheVariants as t
 use Rattle.bj_grammar.specs.Terminal.{terminal, same_terminal, among}
 use Rattle.bj_grammar.specs.Reader.{Text, Parser, ◌>>=◌, pure, over, here, operator, word, sign, ahead, choose, loop}
-use Rattle.bj_expr.specs.declared.bounds.Bounds.{Bounds}
-use Rattle.bj_expr.specs.declared.part.Part.{Part}
 use Rattle.bj_expr.specs.declared.part.Part.TheVariants as part
 use Rattle.bj_expr.specs.Grammar.{assigns, assign_op, primitives}
-use Rattle.bj_expr.specs.Reading.{is, dims, type_at, within, limited}
+use Rattle.bj_expr.specs.Reading.{is, dims, type_at, limited}
+use Rattle.bj_expr.specs.Reading as expressions
 use Rattle.bj_stmt.specs.declared.part.StmtPart.{StmtPart}
 use Rattle.bj_stmt.specs.declared.part.StmtPart.TheVariants as p
 use Rattle.bj_stmt.specs.Grammar.{is_statement, jump, jumps}
@@ -69,9 +68,6 @@ is_empty (a ∷ all) = false
 
 -- ---- small parts
 
-abbrev pub bounds_of : ℕ → ℕ → Bounds
-bounds_of most room = record { most = most; room = room }
-
 unfoldable pub maybe_final : Parser Bool
 maybe_final = choose (is t.Final) (sign t.Final (pure true)) (pure false)
 
@@ -87,7 +83,7 @@ module _ (place : ℕ → Span) (most : ℕ) where
   -- Given how much room there is for an expression.
   module _ (room : ℕ) where
     unfoldable pub value : Parser ExprTree
-    value = within place (bounds_of most room) part.Expression
+    value = expressions.nested place most room part.Expression
 
     -- an expression, where the semicolon does not come at once
     unfoldable pub maybe_value : Parser (Option ExprTree)
@@ -101,7 +97,7 @@ module _ (place : ℕ → Span) (most : ℕ) where
     all_values = choose (is t.RightParen) (pure []) ((value >>= λ x. pure (x ∷ [])) >>= loop most (is t.Comma) next_value)
 
     unfoldable pub maybe_init : Parser (Option ExprTree)
-    maybe_init = choose (is t.Assign) (sign t.Assign (within place (bounds_of most room) part.Initializer >>= λ x. pure (Some x))) (pure None)
+    maybe_init = choose (is t.Assign) (sign t.Assign (expressions.nested place most room part.Initializer >>= λ x. pure (Some x))) (pure None)
 
     -- the rest of a variable, behind its name v at m
     unfoldable pub variable_behind : ℕ → List ℕ → Parser VariableTree
@@ -120,18 +116,19 @@ module _ (place : ℕ → Span) (most : ℕ) where
     unfoldable pub variables_behind : ℕ → List ℕ → Parser (List VariableTree)
     variables_behind m v = (variable_behind m v >>= λ x. pure (x ∷ [])) >>= loop most (is t.Comma) next_variable
 
-    unfoldable pub declaration_by : Parser StmtTree
-    declaration_by = here (λ i. maybe_final >>= λ f. type_at place most >>= λ ty. variables >>= λ vs. pure (stmt.Local (place i) f ty vs))
+    -- What is assigned. Both sides are below the assignment.
+    unfoldable pub assigned : Parser ExprTree
+    assigned = expressions.nested place most (room - 1) part.Expression
 
     unfoldable pub assignment : ℕ → ExprTree → Parser ExprTree
-    assignment i l = operator (among assigns) (λ v. value >>= λ r. limited room (e.Assign (place i) (assign_op (terminal v)) l r))
+    assignment i l = operator (among assigns) (λ v. limited (room - 1) l >>= λ l. assigned >>= λ r. pure (e.Assign (place i) (assign_op (terminal v)) l r))
 
     -- an expression that may be a statement, behind a unary one at its beginning
     unfoldable pub evaluated : ℕ → ExprTree → Parser ExprTree
     evaluated i l = if is_statement l then choose (among assigns) (assignment i l) (pure l) else assignment i l
 
     unfoldable pub statement_expression : Parser ExprTree
-    statement_expression = here (λ i. within place (bounds_of most room) part.Unary >>= evaluated i)
+    statement_expression = here (λ i. expressions.nested place most room part.Unary >>= evaluated i)
 
     unfoldable pub evaluation : Parser StmtTree
     evaluation = here (λ i. statement_expression >>= λ x. pure (stmt.Expression (place i) x))
@@ -151,10 +148,13 @@ module _ (place : ℕ → Span) (most : ℕ) where
     unfoldable pub label : Parser StmtTree
     label = here (λ i. choose (is t.Case) (case_label i) (default_label i))
 
-  -- a declaration with so much room for its variables, each of which is a node above its initializer
+  -- the variables of a declaration with so much room below it; each is a node above its initializer
+  unfoldable pub variables_below : ℕ → Parser (List VariableTree)
+  variables_below zero = over place
+  variables_below (suc room) = variables room
+
   unfoldable pub declaration : ℕ → Parser StmtTree
-  declaration zero = over
-  declaration (suc room) = declaration_by room
+  declaration room = here (λ i. maybe_final >>= λ f. type_at place most >>= λ ty. variables_below room >>= λ vs. pure (stmt.Local (place i) f ty vs))
 
 -- ---- statements
 
@@ -208,10 +208,11 @@ module _ (place : ℕ → Span) (most : ℕ) (room : ℕ) (nested : StmtPart →
   unfoldable pub for_evaluated : ℕ → Parser StmtTree
   for_evaluated i = choose (is t.Semicolon) (for_tail i []) (evaluations >>= for_tail i)
 
--- behind the first name of a declaration at d in a `for`: the declaration and its variables are nodes above their initializers
+-- Behind the first name, at m, of a declaration at d in a `for`: the declaration and its variables are nodes above their initializers.
 unfoldable pub for_variables : (ℕ → Span) → ℕ → ℕ → (StmtPart → Parser StmtTree) → ℕ → ℕ → Bool → TypeTree → NamedPlace → ℕ → Parser StmtTree
+for_variables place most zero nested i d f ty name m = over (λ _. place d)
+for_variables place most (suc zero) nested i d f ty name m = over (λ _. place m)
 for_variables place most (suc (suc room)) nested i d f ty name m = variables_behind place most room m name.name >>= λ vs. for_tail place most (suc (suc room)) nested i (stmt.Local (place d) f ty vs ∷ [])
-for_variables place most room nested i d f ty name m = over
 
 module _ (place : ℕ → Span) (most : ℕ) (room : ℕ) (nested : StmtPart → Parser StmtTree) where
   unfoldable pub for_named : ℕ → ℕ → Bool → TypeTree → Parser StmtTree
@@ -317,7 +318,7 @@ module _ (place : ℕ → Span) (most : ℕ) (room : ℕ) (nested : StmtPart →
 
 -- a part that is no higher than the number says
 unfoldable pub nested : (ℕ → Span) → ℕ → ℕ → StmtPart → Parser StmtTree
-nested place most zero x = over
+nested place most zero x = over place
 nested place most (suc room) x = rule place most room (nested place most room) x
 
 -- one statement or more, up to the end of the text

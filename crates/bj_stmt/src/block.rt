@@ -7,7 +7,7 @@ use crate::nodes::one;
 use crate::reader::Reader;
 use crate::tokens::{inside, is_constructor_call};
 use bj_expr::Bounds;
-use bj_grammar::{Stop, Symbol, Terminal, place, word};
+use bj_grammar::{Stop, Symbol, Terminal, out_of_turns, place, word};
 use bj_tree::{StmtTree, StmtTrees};
 use sqlite_items::Items;
 use std::alloc::Global;
@@ -48,7 +48,7 @@ impl<F: Fn(Global, &[Symbol], Bounds, usize, StmtPart) -> Result<(StmtTree, usiz
             (found, at) = self.next_statement(tokens, found, at)?;
         }
         if inside(tokens, at) {
-            return Err(Stop::Deep(at));
+            return Err(out_of_turns());
         }
         Ok((found, at))
     }

@@ -8,7 +8,7 @@ use crate::reader::Reader;
 use crate::tokens::inside;
 use crate::values::value;
 use bj_expr::Bounds;
-use bj_grammar::{Stop, Symbol, Terminal, place, sees, word};
+use bj_grammar::{Stop, Symbol, Terminal, out_of_turns, place, sees, word};
 use bj_tree::{ExprTree, StmtTree, StmtTrees};
 use sqlite_items::Items;
 use std::alloc::Global;
@@ -101,7 +101,7 @@ impl<F: Fn(Global, &[Symbol], Bounds, usize, StmtPart) -> Result<(StmtTree, usiz
             (found, at) = self.next_member(tokens, found, at)?;
         }
         if inside(tokens, at) {
-            return Err(Stop::Deep(at));
+            return Err(out_of_turns());
         }
         Ok((found, at))
     }

@@ -49,6 +49,23 @@ fn assign_node(
     })
 }
 
+/// What is assigned, which is a node below the assignment.
+#[tactic(auto, unfolding(crate::specs::Reading::assigned))]
+fn assigned(
+    alloc: Global,
+    tokens: &[Symbol],
+    bounds: Bounds,
+    at: usize,
+) -> Result<(ExprTree, usize), Stop>
+    ensures { Gives result (over_bounds spec.assigned tokens.now bounds (text_of tokens.now) at) }
+{
+    let below = Bounds {
+        most: bounds.most,
+        room: bounds.room.saturating_sub(1),
+    };
+    part_at(alloc, tokens, below, at, Part::Expression)
+}
+
 /// An operator of assignment and what is assigned [JLS 15.26].
 #[tactic(auto, unfolding(crate::specs::Reading::assignment))]
 fn assignment(
@@ -62,9 +79,10 @@ fn assignment(
     ensures { Gives result (over_bounds spec.assignment tokens.now bounds start target (text_of tokens.now) at) }
 {
     let (op, at) = assign_at(tokens, at)?;
-    let (value, at) = value(alloc, tokens, bounds, at)?;
+    let (target, at) = limited(tokens, target, bounds.room.saturating_sub(1), at)?;
+    let (value, at) = assigned(alloc, tokens, bounds, at)?;
     let tree = assign_node(alloc, place(tokens, start), assign_op(op), target, value)?;
-    limited(tokens, bounds, tree, start, at)
+    Ok((tree, at))
 }
 
 /// An expression that may be a statement, behind a unary one at its beginning.
@@ -98,7 +116,7 @@ fn statement_expression(
 ) -> Result<(ExprTree, usize), Stop>
     ensures { Gives result (over_bounds spec.statement_expression tokens.now bounds (text_of tokens.now) start) }
 {
-    let (first, at) = part_at(alloc, tokens, bounds, Part::Unary, start)?;
+    let (first, at) = part_at(alloc, tokens, bounds, start, Part::Unary)?;
     evaluated(alloc, tokens, bounds, start, first, at)
 }
 

@@ -10,7 +10,7 @@ use crate::tokens::declares;
 use crate::values::{all_values, maybe_value, value};
 use crate::variables::variables_behind;
 use bj_expr::{Bounds, type_at};
-use bj_grammar::{Stop, Symbol, Terminal, place, sees, word};
+use bj_grammar::{Stop, Symbol, Terminal, out_of_turns, place, sees, word};
 use bj_tree::{ExprTree, ExprTrees, NamedPlace, StmtTree, StmtTrees, TypeTree};
 use sqlite_items::Items;
 use std::alloc::Global;
@@ -105,7 +105,7 @@ impl<F: Fn(Global, &[Symbol], Bounds, usize, StmtPart) -> Result<(StmtTree, usiz
             (found, at) = self.next_evaluation(tokens, found, at)?;
         }
         if sees(tokens, at, Terminal::Comma) {
-            return Err(Stop::Deep(at));
+            return Err(out_of_turns());
         }
         Ok((found, at))
     }
@@ -186,8 +186,11 @@ impl<F: Fn(Global, &[Symbol], Bounds, usize, StmtPart) -> Result<(StmtTree, usiz
         requires { Nests self.now.bounds (F.pre self.now.nested) (F.post self.now.nested) }
         ensures { Gives result (over_nested spec.for_variables tokens.now self.now.bounds start head.declared head.is_final head.of head.name head.named (text_of tokens.now) at) }
     {
-        if self.bounds.room < 2 {
-            return Err(Stop::Deep(at));
+        if self.bounds.room == 0 {
+            return Err(Stop::Deep(place(tokens, head.declared)));
+        }
+        if self.bounds.room == 1 {
+            return Err(Stop::Deep(place(tokens, head.named)));
         }
         let below = Bounds {
             most: self.bounds.most,

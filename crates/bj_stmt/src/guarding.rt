@@ -10,7 +10,7 @@ use crate::reader::Reader;
 use crate::tokens::is_class_lock;
 use crate::values::value;
 use bj_expr::{Bounds, type_at};
-use bj_grammar::{Stop, Symbol, Terminal, place, sees, word};
+use bj_grammar::{Stop, Symbol, Terminal, out_of_turns, place, sees, word};
 use bj_tree::{NamedPlace, StmtTree, StmtTrees, TypeTree};
 use sqlite_items::Items;
 use std::alloc::Global;
@@ -145,7 +145,7 @@ impl<F: Fn(Global, &[Symbol], Bounds, usize, StmtPart) -> Result<(StmtTree, usiz
             (found, at) = self.next_catch(tokens, found, at)?;
         }
         if sees(tokens, at, Terminal::Catch) {
-            return Err(Stop::Deep(at));
+            return Err(out_of_turns());
         }
         Ok((found, at))
     }

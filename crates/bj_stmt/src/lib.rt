@@ -6,7 +6,6 @@ mod choice;
 mod evaluation;
 mod for_loop;
 mod guarding;
-mod height;
 mod labels;
 mod leaving;
 mod loops;
@@ -20,7 +19,6 @@ mod top;
 mod values;
 mod variables;
 
-pub use height::stmt_height;
 pub use names::{maybe_final, name_at};
 pub use part::StmtPart;
 pub use tokens::declares;

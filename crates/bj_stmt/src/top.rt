@@ -7,7 +7,7 @@ use crate::nodes::one;
 use crate::reader::Reader;
 use crate::tokens::on_line;
 use bj_expr::Bounds;
-use bj_grammar::{Stop, Symbol};
+use bj_grammar::{Stop, Symbol, out_of_turns, place};
 use bj_tree::{StmtTree, StmtTrees};
 use std::alloc::Global;
 
@@ -22,7 +22,7 @@ fn nested(
     ensures { Gives result (spec.nested (place_of tokens.now) bounds.most bounds.room part (text_of tokens.now) at) }
 {
     if bounds.room == 0 {
-        return Err(Stop::Deep(at));
+        return Err(Stop::Deep(place(tokens, at)));
     }
     let reader = Reader {
         alloc,
@@ -43,7 +43,7 @@ fn nested(
 /// # Errors
 ///
 /// - `Syntax` at the first token with which no text that begins so goes on as the part.
-/// - `Deep` where there is no room for a node, and where a list is longer than `bounds.most`.
+/// - `Deep` at a node that there is no room for, and where a list is longer than `bounds.most`.
 /// - `Memory` where there is no room for the tree.
 pub fn stmt_at(
     alloc: Global,
@@ -89,7 +89,7 @@ fn more_on_line(
         (found, at) = next_on_line(alloc, tokens, bounds, found, at)?;
     }
     if on_line(tokens, at) {
-        return Err(Stop::Deep(at));
+        return Err(out_of_turns());
     }
     Ok((found, at))
 }
@@ -100,7 +100,7 @@ fn more_on_line(
 /// # Errors
 ///
 /// - `Syntax` at the first token with which no statements that begin so go on.
-/// - `Deep` where there is no room for a node, and where a list is longer than `bounds.most`.
+/// - `Deep` at a node that there is no room for, and where a list is longer than `bounds.most`.
 /// - `Memory` where there is no room for the trees.
 #[tactic(auto, unfolding(crate::specs::Reading::statements_within))]
 pub fn statements_at(

@@ -4,7 +4,7 @@ ghost use Rattle.bj_stmt.specs.Given.{over_bounds, values_of};
 ghost use Rattle.bj_stmt.specs.Reading as spec;
 
 use bj_expr::{Bounds, Part, part_at};
-use bj_grammar::{Stop, Symbol, Terminal, sees, word};
+use bj_grammar::{Stop, Symbol, Terminal, out_of_turns, sees, word};
 use bj_tree::{ExprTree, ExprTrees};
 use sqlite_items::Items;
 use std::alloc::Global;
@@ -19,7 +19,7 @@ pub(crate) fn value(
 ) -> Result<(ExprTree, usize), Stop>
     ensures { Gives result (over_bounds spec.value tokens.now bounds (text_of tokens.now) at) }
 {
-    part_at(alloc, tokens, bounds, Part::Expression, at)
+    part_at(alloc, tokens, bounds, at, Part::Expression)
 }
 
 /// An expression, where the semicolon does not come at once.
@@ -73,7 +73,7 @@ fn more_values(
         (found, at) = next_value(alloc, tokens, bounds, found, at)?;
     }
     if sees(tokens, at, Terminal::Comma) {
-        return Err(Stop::Deep(at));
+        return Err(out_of_turns());
     }
     Ok((found, at))
 }

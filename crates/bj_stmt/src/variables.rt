@@ -5,7 +5,7 @@ ghost use Rattle.bj_stmt.specs.Reading as spec;
 use crate::names::maybe_final;
 use bj_core::{JText, Seq};
 use bj_expr::{Bounds, Part, dims, part_at, type_at};
-use bj_grammar::{Stop, Symbol, Terminal, place, sees, units, word};
+use bj_grammar::{Stop, Symbol, Terminal, out_of_turns, place, sees, units, word};
 use bj_tree::{ExprTree, StmtTree, VariableTree, VariableTrees};
 use std::alloc::Global;
 
@@ -21,7 +21,7 @@ fn maybe_init(
 {
     if sees(tokens, at, Terminal::Assign) {
         let at = word(tokens, at, Terminal::Assign)?;
-        let (tree, at) = part_at(alloc, tokens, bounds, Part::Initializer, at)?;
+        let (tree, at) = part_at(alloc, tokens, bounds, at, Part::Initializer)?;
         return Ok((Some(tree), at));
     }
     Ok((None, at))
@@ -99,7 +99,7 @@ fn more_variables(
         (found, at) = next_variable(alloc, tokens, bounds, found, at)?;
     }
     if sees(tokens, at, Terminal::Comma) {
-        return Err(Stop::Deep(at));
+        return Err(out_of_turns());
     }
     Ok((found, at))
 }
@@ -110,7 +110,7 @@ fn more_variables(
 /// # Errors
 ///
 /// - `Syntax` at the first token with which no variables that begin so go on.
-/// - `Deep` where an initializer is higher, or where there are more than `bounds.most` commas or pairs of brackets.
+/// - `Deep` at a node of an initializer that there is no room for, and where there are more than `bounds.most` commas or pairs of brackets.
 /// - `Memory` where there is no room for them.
 #[tactic(auto, unfolding(crate::specs::Reading::variables))]
 pub fn variables_at(
@@ -145,19 +145,38 @@ pub(crate) fn variables_behind(
     more_variables(alloc, tokens, bounds, found, at)
 }
 
-/// A declaration of variables without its semicolon, with so much room for their initializers.
-#[tactic(auto, unfolding(crate::specs::Reading::declaration_by))]
-fn declaration_by(
+/// The variables of a declaration with so much room below it. Each is a node above its initializer.
+fn variables_below(
+    alloc: Global,
+    tokens: &[Symbol],
+    bounds: Bounds,
+    at: usize,
+) -> Result<(VariableTrees, usize), Stop>
+    ensures { Gives result (over_bounds spec.variables_below tokens.now bounds (text_of tokens.now) at) }
+{
+    if bounds.room == 0 {
+        return Err(Stop::Deep(place(tokens, at)));
+    }
+    let below = Bounds {
+        most: bounds.most,
+        room: bounds.room - 1,
+    };
+    variables_at(alloc, tokens, below, at)
+}
+
+/// A declaration of variables without its semicolon [JLS 14.4].
+#[tactic(auto, unfolding(crate::specs::Reading::declaration))]
+pub(crate) fn declaration(
     alloc: Global,
     tokens: &[Symbol],
     bounds: Bounds,
     start: usize,
 ) -> Result<(StmtTree, usize), Stop>
-    ensures { Gives result (over_bounds spec.declaration_by tokens.now bounds (text_of tokens.now) start) }
+    ensures { Gives result (over_bounds spec.declaration tokens.now bounds (text_of tokens.now) start) }
 {
     let (is_final, at) = maybe_final(tokens, start);
     let (of, at) = type_at(alloc, tokens, bounds.most, at)?;
-    let (variables, at) = variables_at(alloc, tokens, bounds, at)?;
+    let (variables, at) = variables_below(alloc, tokens, bounds, at)?;
     let tree = StmtTree::Local {
         at: place(tokens, start),
         is_final,
@@ -165,23 +184,4 @@ fn declaration_by(
         variables,
     };
     Ok((tree, at))
-}
-
-/// A declaration of variables without its semicolon [JLS 14.4]. A variable is a node above its initializer.
-pub(crate) fn declaration(
-    alloc: Global,
-    tokens: &[Symbol],
-    bounds: Bounds,
-    at: usize,
-) -> Result<(StmtTree, usize), Stop>
-    ensures { Gives result (over_bounds spec.declaration tokens.now bounds (text_of tokens.now) at) }
-{
-    if bounds.room == 0 {
-        return Err(Stop::Deep(at));
-    }
-    let below = Bounds {
-        most: bounds.most,
-        room: bounds.room - 1,
-    };
-    declaration_by(alloc, tokens, below, at)
 }

@@ -3,7 +3,7 @@ use Rattle.std.proofs.lemmas.Grind.{common_steps}
 use Rattle.bj_grammar.specs.declared.terminal.Terminal.TheVariants as t
 use Rattle.bj_expr.specs.Reading.{is}
 use Rattle.bj_grammar.specs.Given.{text_of}
-use Rattle.bj_grammar.proofs.LoopLemmas.{stops, goes, fails, overs, loop_start}
+use Rattle.bj_grammar.proofs.LoopLemmas.{stops, goes, fails, overs, loop_start, out_fails}
 use Rattle.bj_class.specs.Reading.{next_annotation}
 use Rattle.bj_class.specs.Given.{over_most}
 use Rattle.bj_class.proofs.annotations.more_annotations.Goals as goal
@@ -23,7 +23,7 @@ pub loop-turn-preserved : goal.loop-turn-preserved
 loop-turn-preserved c = goes (is t.At) (over_most next_annotation c.args.tokens.now c.args.bounds) (text_of c.args.tokens.now) _ c.args.bounds.most c.loop-turn._turn c.loop-turn.found c.loop-turn.at c.loop-turn.invariant c.loop-turn-test.true (sym c.sees.ensures ∙ c.if-not-sees.false) _ _ c.in_ok-found.ensures
 
 pub returns-then-sees : goal.returns-then-sees
-returns-then-sees c = overs (is t.At) (over_most next_annotation c.args.tokens.now c.args.bounds) (text_of c.args.tokens.now) _ c.args.bounds.most c.loop-turn._turn c.loop-turn.found c.loop-turn.at c.loop-turn.invariant c.loop-turn-test.false (sym c.sees-2.ensures ∙ c.if-sees.true)
+returns-then-sees c = out_fails _ c.out_of_turns.ensures (overs (is t.At) (over_most next_annotation c.args.tokens.now c.args.bounds) (text_of c.args.tokens.now) _ c.args.bounds.most c.loop-turn._turn c.loop-turn.found c.loop-turn.at c.loop-turn.invariant c.loop-turn-test.false (sym c.sees-2.ensures ∙ c.if-sees.true))
 
 pub returns : goal.returns
 returns c = stops (is t.At) (over_most next_annotation c.args.tokens.now c.args.bounds) (text_of c.args.tokens.now) _ c.args.bounds.most c.loop-turn._turn c.loop-turn.found c.loop-turn.at c.loop-turn.invariant (sym c.sees-2.ensures ∙ c.if-sees.false)

@@ -5,6 +5,7 @@ use Rattle.bj_grammar.specs.Given.{text_of, place_of}
 use Rattle.bj_class.specs.Reading.{more_names}
 use Rattle.bj_class.specs.Given.{over_most}
 use Rattle.bj_class.proofs.ClassCode.{from_start, names_end, names_past, names_all, names_go, names_fail}
+use Rattle.bj_grammar.proofs.LoopLemmas.{out_fails}
 use Rattle.bj_class.proofs.imports.more_imported.Goals as goal
 
 pub loop-turn-init : goal.loop-turn-init
@@ -27,7 +28,7 @@ loop-turn-preserved c =
     ∙ ap (λ (b : List NamedPlace). over_most more_names c.args.tokens.now c.args.bounds (c.args.bounds.most - (c.loop-turn._turn + 1)) b (text_of c.args.tokens.now) c.in_ok-name.next) (sym c.in_ok-push.ensures.ok)
 
 pub returns-then-sees-2 : goal.returns-then-sees-2
-returns-then-sees-2 c = names_past (place_of c.args.tokens.now) c.args.bounds.most (text_of c.args.tokens.now) _ c.args.bounds.most c.loop-turn._turn c.loop-turn.found c.loop-turn.at c.loop-turn.invariant c.loop-turn-test.false (sym c.sees-2.ensures ∙ c.if-sees-2.true)
+returns-then-sees-2 c = out_fails _ c.out_of_turns.ensures (names_past (place_of c.args.tokens.now) c.args.bounds.most (text_of c.args.tokens.now) _ c.args.bounds.most c.loop-turn._turn c.loop-turn.found c.loop-turn.at c.loop-turn.invariant c.loop-turn-test.false (sym c.sees-2.ensures ∙ c.if-sees-2.true))
 
 pub returns : goal.returns
 returns c = names_end (place_of c.args.tokens.now) c.args.bounds.most (text_of c.args.tokens.now) _ c.args.bounds.most c.loop-turn._turn c.loop-turn.found c.loop-turn.at c.loop-turn.invariant (sym c.sees-2.ensures ∙ c.if-sees-2.false)

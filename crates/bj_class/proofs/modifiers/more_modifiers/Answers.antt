@@ -2,7 +2,7 @@ use Rattle.std.proofs.Common.{◌∙◌, rules, sym, arith}
 use Rattle.std.proofs.lemmas.Grind.{common_steps}
 use Rattle.bj_grammar.specs.Terminal.{among}
 use Rattle.bj_grammar.specs.Given.{text_of}
-use Rattle.bj_grammar.proofs.LoopLemmas.{stops, goes, fails, overs, loop_start}
+use Rattle.bj_grammar.proofs.LoopLemmas.{stops, goes, fails, overs, loop_start, out_fails}
 use Rattle.bj_class.specs.Grammar.{modifier_words}
 use Rattle.bj_class.specs.Reading.{next_modifier}
 use Rattle.bj_class.specs.Given.{over_most}
@@ -23,7 +23,7 @@ pub loop-turn-preserved : goal.loop-turn-preserved
 loop-turn-preserved c = goes (among modifier_words) (over_most next_modifier c.args.tokens.now c.args.bounds) (text_of c.args.tokens.now) _ c.args.bounds.most c.loop-turn._turn c.loop-turn.found c.loop-turn.at c.loop-turn.invariant c.loop-turn-test.true (sym c.modifies.ensures ∙ c.if-not-modifies.false) _ _ c.in_ok-found.ensures
 
 pub returns-then-modifies : goal.returns-then-modifies
-returns-then-modifies c = overs (among modifier_words) (over_most next_modifier c.args.tokens.now c.args.bounds) (text_of c.args.tokens.now) _ c.args.bounds.most c.loop-turn._turn c.loop-turn.found c.loop-turn.at c.loop-turn.invariant c.loop-turn-test.false (sym c.modifies-2.ensures ∙ c.if-modifies.true)
+returns-then-modifies c = out_fails _ c.out_of_turns.ensures (overs (among modifier_words) (over_most next_modifier c.args.tokens.now c.args.bounds) (text_of c.args.tokens.now) _ c.args.bounds.most c.loop-turn._turn c.loop-turn.found c.loop-turn.at c.loop-turn.invariant c.loop-turn-test.false (sym c.modifies-2.ensures ∙ c.if-modifies.true))
 
 pub returns : goal.returns
 returns c = stops (among modifier_words) (over_most next_modifier c.args.tokens.now c.args.bounds) (text_of c.args.tokens.now) _ c.args.bounds.most c.loop-turn._turn c.loop-turn.found c.loop-turn.at c.loop-turn.invariant (sym c.modifies-2.ensures ∙ c.if-modifies.false)

@@ -3,7 +3,7 @@ use Rattle.std.proofs.lemmas.Grind.{common_steps}
 use Rattle.bj_grammar.specs.declared.terminal.Terminal.TheVariants as t
 use Rattle.bj_grammar.specs.Given.{text_of}
 use Rattle.bj_expr.specs.Reading.{is, pair}
-use Rattle.bj_grammar.proofs.LoopLemmas.{stops, goes, fails, overs}
+use Rattle.bj_grammar.proofs.LoopLemmas.{stops, goes, fails, overs, out_fails}
 use Rattle.bj_expr.proofs.CodeLemmas.{pairs_start}
 use Rattle.bj_expr.proofs.types.pairs.Goals as goal
 
@@ -22,7 +22,7 @@ pub loop-turn-preserved : goal.loop-turn-preserved
 loop-turn-preserved c = goes (is t.LeftBracket) pair (text_of c.args.tokens.now) _ c.args.most c.loop-turn._turn c.loop-turn.dims c.loop-turn.at c.loop-turn.invariant c.loop-turn-test.true (sym c.sees.ensures ∙ c.if-not-sees.false) _ _ c.in_ok-dims.ensures
 
 pub returns-then-sees : goal.returns-then-sees
-returns-then-sees c = overs (is t.LeftBracket) pair (text_of c.args.tokens.now) _ c.args.most c.loop-turn._turn c.loop-turn.dims c.loop-turn.at c.loop-turn.invariant c.loop-turn-test.false (sym c.sees-2.ensures ∙ c.if-sees.true)
+returns-then-sees c = out_fails _ c.out_of_turns.ensures (overs (is t.LeftBracket) pair (text_of c.args.tokens.now) _ c.args.most c.loop-turn._turn c.loop-turn.dims c.loop-turn.at c.loop-turn.invariant c.loop-turn-test.false (sym c.sees-2.ensures ∙ c.if-sees.true))
 
 pub returns : goal.returns
 returns c = stops (is t.LeftBracket) pair (text_of c.args.tokens.now) _ c.args.most c.loop-turn._turn c.loop-turn.dims c.loop-turn.at c.loop-turn.invariant (sym c.sees-2.ensures ∙ c.if-sees.false)

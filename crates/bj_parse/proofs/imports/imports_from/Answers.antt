@@ -7,7 +7,7 @@ use Rattle.bj_expr.specs.Reading.{is}
 use Rattle.bj_class.specs.Reading.{import_at}
 use Rattle.bj_parse.specs.Checked.{nothing_early, check_import}
 use Rattle.bj_parse.specs.Parts.{imports_of}
-use Rattle.bj_parse.proofs.CheckedLoops.{stops, goes, fails, overs, run_start}
+use Rattle.bj_parse.proofs.CheckedLoops.{stops, goes, fails, overs, run_start, out_halts}
 use Rattle.bj_parse.proofs.imports.imports_from.Goals as goal
 
 pub loop-turn-init : goal.loop-turn-init
@@ -26,7 +26,7 @@ pub loop-turn-preserved : goal.loop-turn-preserved
 loop-turn-preserved c = goes (is t.Import) (import_at (place_of c.args.tokens.now) c.args.bounds.most) (check_import) nothing_early (text_of c.args.tokens.now) _ c.args.bounds.most c.loop-turn._turn c.loop-turn.found c.loop-turn.at c.loop-turn.invariant c.loop-turn-test.true (sym c.sees.ensures ∙ c.if-not-sees.false) _ _ c.in_ok-found.ensures
 
 pub returns-then-sees : goal.returns-then-sees
-returns-then-sees c = overs (is t.Import) (import_at (place_of c.args.tokens.now) c.args.bounds.most) (check_import) nothing_early (text_of c.args.tokens.now) _ c.args.bounds.most c.loop-turn._turn c.loop-turn.found c.loop-turn.at c.loop-turn.invariant c.loop-turn-test.false (sym c.sees-2.ensures ∙ c.if-sees.true)
+returns-then-sees c = out_halts _ c.out_of_turns.ensures (overs (is t.Import) (import_at (place_of c.args.tokens.now) c.args.bounds.most) (check_import) nothing_early (text_of c.args.tokens.now) _ c.args.bounds.most c.loop-turn._turn c.loop-turn.found c.loop-turn.at c.loop-turn.invariant c.loop-turn-test.false (sym c.sees-2.ensures ∙ c.if-sees.true))
 
 pub returns : goal.returns
 returns c = stops (is t.Import) (import_at (place_of c.args.tokens.now) c.args.bounds.most) (check_import) nothing_early (text_of c.args.tokens.now) _ c.args.bounds.most c.loop-turn._turn c.loop-turn.found c.loop-turn.at c.loop-turn.invariant (sym c.sees-2.ensures ∙ c.if-sees.false)

@@ -14,10 +14,10 @@ returns-then-at-later-clause-fault c =
     laws.first_by_statements c.args.tokens.now c.args.at c.in-Ok-Stuck.later (let h : c.args.at < c.in-Ok-Stuck.later = c.if-at-later.true in omega arith) c.requires (subst (λ (x : Outcome (List StmtTree)). IsStatementsOutcome c.args.tokens.now x) c.in-Ok-Stuck.field-0-is c.in-Ok-Stuck.ensures)
 
 pub returns-in-Ok-Whole-clause-found : goal.returns-in-Ok-Whole-clause-found
-returns-in-Ok-Whole-clause-found c = let w = subst (λ (x : Outcome (List StmtTree)). IsStatementsOutcome c.args.tokens.now x) c.in-Ok-Whole.field-0-is c.in-Ok-Whole.ensures in laws.statements_stand c.args.tokens.now c.in-Ok-Whole.trees w.0 w.1 (laws.none_stuck c.args.tokens.now c.args.at c.requires)
+returns-in-Ok-Whole-clause-found c = laws.statements_stand c.args.tokens.now c.in-Ok-Whole.trees (subst (λ (x : Outcome (List StmtTree)). IsStatementsOutcome c.args.tokens.now x) c.in-Ok-Whole.field-0-is c.in-Ok-Whole.ensures) (laws.none_stuck c.args.tokens.now c.args.at c.requires)
 
 pub returns-in-Ok-Whole-clause-only : goal.returns-in-Ok-Whole-clause-only
-returns-in-Ok-Whole-clause-only c = let w = subst (λ (x : Outcome (List StmtTree)). IsStatementsOutcome c.args.tokens.now x) c.in-Ok-Whole.field-0-is c.in-Ok-Whole.ensures in laws.statements_only c.args.tokens.now c.in-Ok-Whole.trees w.0 (laws.none_stuck c.args.tokens.now c.args.at c.requires)
+returns-in-Ok-Whole-clause-only c = laws.statements_only c.args.tokens.now c.in-Ok-Whole.trees (subst (λ (x : Outcome (List StmtTree)). IsStatementsOutcome c.args.tokens.now x) c.in-Ok-Whole.field-0-is c.in-Ok-Whole.ensures) (laws.none_stuck c.args.tokens.now c.args.at c.requires)
 
 pub returns-else-at-later-clause-only : goal.returns-else-at-later-clause-only
 returns-else-at-later-clause-only c =
@@ -29,7 +29,7 @@ returns-else-at-later-clause-fault c =
 
 pub returns-in-Ok-Deep-clause-only : goal.returns-in-Ok-Deep-clause-only
 returns-in-Ok-Deep-clause-only c =
-    laws.no_line c.args.tokens.now (record { expression = laws.none_stuck c.args.tokens.now c.args.at c.requires; statements = laws.deep_no_statements c.args.tokens.now (subst (λ (x : Outcome (List StmtTree)). IsStatementsOutcome c.args.tokens.now x) c.in-Ok-Deep.field-0-is c.in-Ok-Deep.ensures) })
+    laws.no_line c.args.tokens.now (record { expression = laws.none_stuck c.args.tokens.now c.args.at c.requires; statements = laws.deep_no_statements c.args.tokens.now c.in-Ok-Deep.deep (subst (λ (x : Outcome (List StmtTree)). IsStatementsOutcome c.args.tokens.now x) c.in-Ok-Deep.field-0-is c.in-Ok-Deep.ensures) })
 
 pub returns-in-Ok-Deep-clause-fault : goal.returns-in-Ok-Deep-clause-fault
-returns-in-Ok-Deep-clause-fault c = laws.deep_second c.args.tokens.now c.args.at c.requires (subst (λ (x : Outcome (List StmtTree)). IsStatementsOutcome c.args.tokens.now x) c.in-Ok-Deep.field-0-is c.in-Ok-Deep.ensures)
+returns-in-Ok-Deep-clause-fault c = laws.deep_second c.args.tokens.now c.args.at c.requires c.in-Ok-Deep.deep (subst (λ (x : Outcome (List StmtTree)). IsStatementsOutcome c.args.tokens.now x) c.in-Ok-Deep.field-0-is c.in-Ok-Deep.ensures)

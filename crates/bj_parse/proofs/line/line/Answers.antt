@@ -6,7 +6,7 @@ use Rattle.bj_parse.proofs.LineLaws as laws
 use Rattle.bj_parse.proofs.line.line.Goals as goal
 
 pub returns-in-Ok-Whole-clause-found : goal.returns-in-Ok-Whole-clause-found
-returns-in-Ok-Whole-clause-found c = let w = subst (λ (x : Outcome ExprTree). IsExpressionOutcome c.args.tokens.now x) c.in-Ok-Whole.field-0-is c.in-Ok-Whole.ensures in laws.expression_stands c.args.tokens.now c.in-Ok-Whole.tree w.0 w.1
+returns-in-Ok-Whole-clause-found c = laws.expression_stands c.args.tokens.now c.in-Ok-Whole.tree (subst (λ (x : Outcome ExprTree). IsExpressionOutcome c.args.tokens.now x) c.in-Ok-Whole.field-0-is c.in-Ok-Whole.ensures)
 
 pub returns-in-Ok-Whole-clause-only : goal.returns-in-Ok-Whole-clause-only
-returns-in-Ok-Whole-clause-only c = let w = subst (λ (x : Outcome ExprTree). IsExpressionOutcome c.args.tokens.now x) c.in-Ok-Whole.field-0-is c.in-Ok-Whole.ensures in laws.expression_only c.args.tokens.now c.in-Ok-Whole.tree w.0 w.1
+returns-in-Ok-Whole-clause-only c = laws.expression_only c.args.tokens.now c.in-Ok-Whole.tree (subst (λ (x : Outcome ExprTree). IsExpressionOutcome c.args.tokens.now x) c.in-Ok-Whole.field-0-is c.in-Ok-Whole.ensures)

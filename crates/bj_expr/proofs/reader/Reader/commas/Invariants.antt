@@ -8,5 +8,5 @@ use Rattle.bj_expr.proofs.reader.Reader.commas.Given as goal
 
 abbrev pub invariant-loop-turn : goal.invariant-loop-turn
 invariant-loop-turn g l =
-    commas_of l.self.bounds l.self.depth l.tokens l.fn.found (text_of l.tokens) l.fn.at
-    ≡ loop (l.self.bounds.most - l._turn) (is t.Comma) (over_nested comma l.tokens l.self.bounds l.self.depth) l.found (text_of l.tokens) l.at
+    commas_of l.self.bounds l.tokens l.fn.found (text_of l.tokens) l.fn.at
+    ≡ loop (l.self.bounds.most - l._turn) (is t.Comma) (over_nested comma l.tokens l.self.bounds) l.found (text_of l.tokens) l.at

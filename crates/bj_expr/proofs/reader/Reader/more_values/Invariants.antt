@@ -6,5 +6,5 @@ use Rattle.bj_expr.proofs.reader.Reader.more_values.Given as goal
 
 abbrev pub invariant-loop-turn : goal.invariant-loop-turn
 invariant-loop-turn g l =
-    over_nested more_values l.tokens l.self.bounds l.self.depth l.self.bounds.most l.fn.found (text_of l.tokens) l.fn.at
-    ≡ over_nested more_values l.tokens l.self.bounds l.self.depth (l.self.bounds.most - l._turn) l.found (text_of l.tokens) l.at
+    over_nested more_values l.tokens l.self.bounds l.self.bounds.most l.fn.found (text_of l.tokens) l.fn.at
+    ≡ over_nested more_values l.tokens l.self.bounds (l.self.bounds.most - l._turn) l.found (text_of l.tokens) l.at

@@ -9,5 +9,5 @@ use Rattle.bj_expr.proofs.reader.Reader.postfix_steps.Given as goal
 
 abbrev pub invariant-loop-turn : goal.invariant-loop-turn
 invariant-loop-turn g l =
-    steps_of l.self.bounds l.self.depth l.tokens l.start l.fn.operand (text_of l.tokens) l.fn.at
-    ≡ loop (l.self.bounds.most - l._turn) (among step_ops) (over_nested postfix_step l.tokens l.self.bounds l.self.depth l.start) l.operand (text_of l.tokens) l.at
+    steps_of l.self.bounds l.tokens l.start l.fn.operand (text_of l.tokens) l.fn.at
+    ≡ loop (l.self.bounds.most - l._turn) (among step_ops) (over_nested postfix_step l.tokens l.self.bounds l.start) l.operand (text_of l.tokens) l.at

@@ -8,5 +8,5 @@ use Rattle.bj_expr.proofs.reader.Reader.selections.Given as goal
 
 abbrev pub invariant-loop-turn : goal.invariant-loop-turn
 invariant-loop-turn g l =
-    selections_of l.self.bounds l.self.depth l.tokens l.start l.fn.target (text_of l.tokens) l.fn.at
-    ≡ loop (l.self.bounds.most - l._turn) (among selectors) (over_nested selection l.tokens l.self.bounds l.self.depth l.start) l.target (text_of l.tokens) l.at
+    selections_of l.self.bounds l.tokens l.start l.fn.target (text_of l.tokens) l.fn.at
+    ≡ loop (l.self.bounds.most - l._turn) (among selectors) (over_nested selection l.tokens l.self.bounds l.start) l.target (text_of l.tokens) l.at

@@ -4,11 +4,14 @@ use Rattle.bj_core.specs.declared.types.Span.{Span}
 use Rattle.bj_tree.specs.declared.stmt.StmtTree.TheVariants as stmt
 use Rattle.bj_grammar.specs.Given.{text_of, place_of}
 use Rattle.bj_stmt.specs.Reading.{nested}
-use Rattle.bj_stmt.proofs.StmtCode.{for_low, for_fails, for_gives}
+use Rattle.bj_stmt.proofs.StmtCode.{told, for_none, for_one, for_fails, for_gives}
 use Rattle.bj_stmt.proofs.reader.Reader.for_variables.Goals as goal
 
-pub returns-then-self-lt2 : goal.returns-then-self-lt2
-returns-then-self-lt2 g c = for_low (place_of c.args.tokens.now) c.args.self.now.bounds.most (nested (place_of c.args.tokens.now) c.args.self.now.bounds.most c.args.self.now.bounds.room) c.args.start c.args.head.declared c.args.head.is_final c.args.head.of c.args.head.name c.args.head.named (text_of c.args.tokens.now) c.args.at c.args.self.now.bounds.room c.if-self-lt2.true
+pub returns-then-self-eq0 : goal.returns-then-self-eq0
+returns-then-self-eq0 g c = told _ _ _ c.place.ensures (for_none (place_of c.args.tokens.now) c.args.self.now.bounds.most (nested (place_of c.args.tokens.now) c.args.self.now.bounds.most c.args.self.now.bounds.room) c.args.start c.args.head.declared c.args.head.is_final c.args.head.of c.args.head.name c.args.head.named (text_of c.args.tokens.now) c.args.at c.args.self.now.bounds.room c.if-self-eq0.true)
+
+pub returns-then-self-eq1 : goal.returns-then-self-eq1
+returns-then-self-eq1 g c = told _ _ _ c.place-then-self-eq1.ensures (for_one (place_of c.args.tokens.now) c.args.self.now.bounds.most (nested (place_of c.args.tokens.now) c.args.self.now.bounds.most c.args.self.now.bounds.room) c.args.start c.args.head.declared c.args.head.is_final c.args.head.of c.args.head.name c.args.head.named (text_of c.args.tokens.now) c.args.at c.args.self.now.bounds.room c.if-self-eq1.true)
 
 pub returns-in_err-variables : goal.returns-in_err-variables
 returns-in_err-variables g c =
@@ -17,4 +20,4 @@ returns-in_err-variables g c =
 
 pub returns : goal.returns
 returns g c = for_gives (place_of c.args.tokens.now) c.args.self.now.bounds.most (nested (place_of c.args.tokens.now) c.args.self.now.bounds.most c.args.self.now.bounds.room) c.args.start c.args.head.declared c.args.head.is_final c.args.head.of c.args.head.name c.args.head.named (text_of c.args.tokens.now) c.args.at c.args.self.now.bounds.room (omega arith) _ _ c.in_ok-variables.ensures _
-    (c.in_ok-init.ensures ∙ ap (λ (q : Span). (stmt.Local q c.args.head.is_final c.args.head.of c.in_ok-variables.variables ∷ [])) c.place.ensures) _ c.for_tail.ensures
+    (c.in_ok-init.ensures ∙ ap (λ (q : Span). (stmt.Local q c.args.head.is_final c.args.head.of c.in_ok-variables.variables ∷ [])) c.place-2.ensures) _ c.for_tail.ensures

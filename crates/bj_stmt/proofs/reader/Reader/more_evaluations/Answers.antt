@@ -5,7 +5,7 @@ use Rattle.bj_expr.specs.Reading.{is}
 use Rattle.bj_stmt.specs.Reading.{next_evaluation}
 use Rattle.bj_grammar.specs.Given.{text_of}
 use Rattle.bj_stmt.specs.Given.{over_nested}
-use Rattle.bj_grammar.proofs.LoopLemmas.{stops, goes, fails, overs, loop_start}
+use Rattle.bj_grammar.proofs.LoopLemmas.{stops, goes, fails, overs, loop_start, out_fails}
 use Rattle.bj_stmt.proofs.reader.Reader.more_evaluations.Goals as goal
 
 pub loop-turn-init : goal.loop-turn-init
@@ -23,7 +23,7 @@ pub loop-turn-preserved : goal.loop-turn-preserved
 loop-turn-preserved g c = goes (is t.Comma) (over_nested next_evaluation c.args.tokens.now c.args.self.now.bounds) (text_of c.args.tokens.now) _ c.args.self.now.bounds.most c.loop-turn._turn c.loop-turn.found c.loop-turn.at c.loop-turn.invariant c.loop-turn-test.true (sym c.sees.ensures ∙ c.if-not-sees.false) _ _ c.in_ok-found.ensures
 
 pub returns-then-sees : goal.returns-then-sees
-returns-then-sees g c = overs (is t.Comma) (over_nested next_evaluation c.args.tokens.now c.args.self.now.bounds) (text_of c.args.tokens.now) _ c.args.self.now.bounds.most c.loop-turn._turn c.loop-turn.found c.loop-turn.at c.loop-turn.invariant c.loop-turn-test.false (sym c.sees-2.ensures ∙ c.if-sees.true)
+returns-then-sees g c = out_fails _ c.out_of_turns.ensures (overs (is t.Comma) (over_nested next_evaluation c.args.tokens.now c.args.self.now.bounds) (text_of c.args.tokens.now) _ c.args.self.now.bounds.most c.loop-turn._turn c.loop-turn.found c.loop-turn.at c.loop-turn.invariant c.loop-turn-test.false (sym c.sees-2.ensures ∙ c.if-sees.true))
 
 pub returns : goal.returns
 returns g c = stops (is t.Comma) (over_nested next_evaluation c.args.tokens.now c.args.self.now.bounds) (text_of c.args.tokens.now) _ c.args.self.now.bounds.most c.loop-turn._turn c.loop-turn.found c.loop-turn.at c.loop-turn.invariant (sym c.sees-2.ensures ∙ c.if-sees.false)
