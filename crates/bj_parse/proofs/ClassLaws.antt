@@ -138,9 +138,7 @@ module _ (tokens : Tokens) where
       of (Misfits x) e h = absurd h
 
   too_deep : (at : Span) → IsDeepChecked at (the_file tokens) → TooDeep tokens.class items at
-  too_deep at h =
-      let d = whole.deep_at _ FileRel Any Deep items laws (λ a. tt) at (plain_deep at h) in
-      record { place = d.place; begins = d.begins; deep = d.deep }
+  too_deep at h = whole.deep_at _ FileRel Any Deep items laws (λ a. tt) at (plain_deep at h)
 
   -- no class is read where reading halts
   halted_none : (e : Halt) → (e ≡ halts.Stopped stops.Memory → ⊥) → HaltsAs e (the_file tokens) → (a : ClassTree) → IsClass tokens.class items a → ⊥

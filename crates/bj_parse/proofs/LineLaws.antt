@@ -163,13 +163,13 @@ module _ (tokens : List Token) where
   node_of_statements at deep = whole.deep_at _ StmtsRel AtEnd IsDeepAmong tokens stmts_laws stmts_end at deep
 
   pub deep_both : (at other : Span) → IsDeepAt at (as_expression tokens) → IsDeepAt other (as_statements tokens) → TooDeep tokens at
-  deep_both at other x y = record { node = inl (node_of_expression at x); expression = high_expression at x; statements = high_statements other y }
+  deep_both at other x y = record { passes = inl x; node = inl (node_of_expression at x); expression = high_expression at x; statements = high_statements other y }
 
   pub deep_first : (at : Span) → IsDeepAt at (as_expression tokens) → (m : ℕ) → IsStuck tokens (as_statements tokens) m → TooDeep tokens at
-  deep_first at x m y = record { node = inl (node_of_expression at x); expression = high_expression at x; statements = λ b d. absurd (stuck_statements m y b d) }
+  deep_first at x m y = record { passes = inl x; node = inl (node_of_expression at x); expression = high_expression at x; statements = λ b d. absurd (stuck_statements m y b d) }
 
   pub deep_second : (k : ℕ) → IsStuck tokens (as_expression tokens) k → (at : Span) → IsDeepAt at (as_statements tokens) → TooDeep tokens at
-  deep_second k x at y = record { node = inr (node_of_statements at y); expression = λ a d. absurd (stuck_expression k x a d); statements = high_statements at y }
+  deep_second k x at y = record { passes = inr y; node = inr (node_of_statements at y); expression = λ a d. absurd (stuck_expression k x a d); statements = high_statements at y }
 
   -- ---- as the code reads them
 

@@ -1,5 +1,5 @@
 -- What the tokens of a file are, and what reading one promises.
-use Rattle.std.specs.Prelude.{◌≡◌, ℕ, suc, ◌≤◌, ◌+◌, Bool, ◌&&◌, ◌||◌, not, if◌then◌else◌, ◌⊎◌, List, [], ◌∷◌, length, Some, None, Result, Ok, Err}
+use Rattle.std.specs.Prelude.{◌≡◌, ℕ, suc, ◌≤◌, Bool, ◌&&◌, ◌||◌, not, if◌then◌else◌, ◌⊎◌, List, [], ◌∷◌, length, Some, None, Result, Ok, Err}
 use Rattle.bj_core.specs.declared.types.Span.{Span}
 use Rattle.bj_core.specs.declared.fault.FaultCode.{FaultCode}
 use Rattle.bj_core.specs.declared.fault.FaultCode.TheVariants as codes
@@ -22,7 +22,7 @@ use Rattle.bj_expr.specs.Grammar.{leasts}
 use Rattle.bj_class.specs.declared.head.ClassHead.{ClassHead}
 use Rattle.bj_class.specs.Grammar.{Imports, Import, Head, Members, Member, File, modifier_words}
 use Rattle.bj_class.specs.Deep.{HighMembers, DeepMembers}
-use Rattle.bj_parse.specs.Line.{most_nodes, SameBefore, back, class_words, is_left_out, spot}
+use Rattle.bj_parse.specs.Line.{most_nodes, SameBefore, DeepAt, back, class_words, is_left_out, spot}
 use Rattle.bj_parse.specs.Marks.{member_place, head_place, UnfitMark}
 use Rattle.bj_parse.specs.Checked.{Checked, IsDeepChecked, checked_file}
 use Rattle.bj_parse.specs.declared.halt.Halt.{Halt}
@@ -88,10 +88,8 @@ pub record FirstFault (file : List ℕ) (tokens : List Token) (at : ℕ) : Type 
 
 -- The tokens before some place begin a file of the grammar, and in each file of the tokens that go on from these, and from the five behind them, a
 -- node at the span has more than 200 nodes above it in its body or initializer.
-pub record TooDeep (file : List ℕ) (tokens : List Token) (at : Span) : Type 0 where
-  pub place : ℕ
-  pub begins : (others : List Token) × (place ≤ length others) × SameBefore tokens others place × InFiles file tokens others
-  pub deep : (others : List Token) (a : ClassTree) → SameBefore tokens others (5 + place) → IsFile file tokens others a → DeepMembers most_nodes at a.members
+abbrev pub TooDeep : List ℕ → List Token → Span → Type 0
+TooDeep file tokens at = DeepAt (IsFile file tokens) (λ node a. DeepMembers most_nodes node a.members) tokens at
 
 -- ---- the codes of faults
 

@@ -112,9 +112,10 @@ pub record DeepAt {A : Type 0} (Stands : List Token → A → Type 0) (IsDeep : 
   pub begins : (others : List Token) × (place ≤ length others) × SameBefore tokens others place × ((a : A) × Stands others a)
   pub deep : (others : List Token) (a : A) → SameBefore tokens others (5 + place) → Stands others a → IsDeep at a
 
--- The place of a node that is too deep in each expression, or in all statements, that go on from the tokens so far. A node of each line that all the
--- tokens are has more than 200 nodes above it.
+-- Reading the tokens as an expression, or as statements, passes the limit of depth at a node there, which is too deep in all that goes on from the
+-- tokens so far. A node of each line that all the tokens are has more than 200 nodes above it.
 pub record TooDeep (tokens : List Token) (at : Span) : Type 0 where
+  pub passes : IsDeepAt at (as_expression tokens) ⊎ IsDeepAt at (as_statements tokens)
   pub node : DeepAt (IsExpression tokens) IsDeepIn tokens at ⊎ DeepAt (AreStatements tokens) IsDeepAmong tokens at
   pub expression : (a : ExprTree) → IsExpression tokens tokens a → most_nodes < height_of a
   pub statements : (b : List StmtTree) → AreStatements tokens tokens b → most_nodes < line_height b
