@@ -1,5 +1,4 @@
-ghost use Rattle.bj_grammar.specs.Given.{text_of, place_of, Gives};
-ghost use Rattle.bj_stmt.specs.Reading as stmt_spec;
+ghost use Rattle.bj_grammar.specs.Given.{text_of, Gives};
 ghost use Rattle.bj_stmt.specs.Given.{over_bounds};
 ghost use Rattle.bj_class.specs.Reading as spec;
 
@@ -9,20 +8,6 @@ use bj_stmt::{StmtPart, stmt_at};
 use bj_tree::StmtTree;
 use sqlite_items::Boxed;
 use std::alloc::Global;
-
-/// A block or the body of a constructor, in the box that its member holds it in [JLS 14.2, 8.8.7].
-pub(crate) fn body_at(
-    alloc: Global,
-    tokens: &[Symbol],
-    bounds: Bounds,
-    part: StmtPart,
-    at: usize,
-) -> Result<(Boxed<StmtTree>, usize), Stop>
-    ensures { Gives result (stmt_spec.nested (place_of tokens.now) bounds.most bounds.room part (text_of tokens.now) at) }
-{
-    let (body, at) = stmt_at(alloc, tokens, bounds, part, at)?;
-    Ok((Boxed::new(alloc, body)?, at))
-}
 
 /// The body of a method, a block, or a semicolon in its place [JLS 8.4.7].
 #[tactic(auto, unfolding(crate::specs::Reading::maybe_body))]
@@ -38,6 +23,6 @@ pub(crate) fn maybe_body(
         let at = word(tokens, at, Terminal::Semicolon)?;
         return Ok((None, at));
     }
-    let (body, at) = body_at(alloc, tokens, bounds, StmtPart::Block, at)?;
+    let (body, at) = stmt_at(alloc, tokens, bounds, StmtPart::Block, at)?;
     Ok((Some(body), at))
 }

@@ -2,13 +2,12 @@ ghost use Rattle.bj_grammar.specs.Given.{text_of, Gives};
 ghost use Rattle.bj_stmt.specs.Given.{over_bounds};
 ghost use Rattle.bj_class.specs.Reading as spec;
 
-use crate::bodies::body_at;
 use crate::names::maybe_names;
 use crate::parameters::formals;
 use crate::prefix::Prefix;
 use bj_expr::Bounds;
 use bj_grammar::{Stop, Symbol, Terminal, place};
-use bj_stmt::{StmtPart, name_at};
+use bj_stmt::{StmtPart, name_at, stmt_at};
 use bj_tree::{ConstructorTree, MemberTree};
 use std::alloc::Global;
 
@@ -26,7 +25,7 @@ pub(crate) fn constructor(
     let (name, at) = name_at(alloc, tokens, at)?;
     let (parameters, at) = formals(alloc, tokens, bounds, at)?;
     let (throws, at) = maybe_names(alloc, tokens, bounds, Terminal::Throws, at)?;
-    let (body, at) = body_at(alloc, tokens, bounds, StmtPart::ConstructorBody, at)?;
+    let (body, at) = stmt_at(alloc, tokens, bounds, StmtPart::ConstructorBody, at)?;
     let constructor = ConstructorTree {
         at: place(tokens, prefix.start),
         annotations: prefix.annotations,

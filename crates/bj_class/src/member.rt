@@ -3,7 +3,6 @@ ghost use Rattle.bj_stmt.specs.Given.{over_bounds};
 ghost use Rattle.bj_class.specs.Reading as spec;
 
 use crate::annotations::annotations;
-use crate::bodies::body_at;
 use crate::constructors::constructor;
 use crate::fields::fields_rest;
 use crate::methods::{method_rest, void_method};
@@ -12,7 +11,7 @@ use crate::prefix::Prefix;
 use crate::tokens::{is_called, is_static_block};
 use bj_expr::{Bounds, type_at};
 use bj_grammar::{Stop, Symbol, Terminal, place, sees, word};
-use bj_stmt::{StmtPart, name_at};
+use bj_stmt::{StmtPart, name_at, stmt_at};
 use bj_tree::{InitializerTree, MemberTree};
 use std::alloc::Global;
 
@@ -73,7 +72,7 @@ fn block_member(
 ) -> Result<(MemberTree, usize), Stop>
     ensures { Gives result (over_bounds spec.block_member tokens.now bounds start is_static (text_of tokens.now) at) }
 {
-    let (body, at) = body_at(alloc, tokens, bounds, StmtPart::Block, at)?;
+    let (body, at) = stmt_at(alloc, tokens, bounds, StmtPart::Block, at)?;
     let initializer = InitializerTree {
         at: place(tokens, start),
         is_static,

@@ -10,6 +10,3 @@ pub use command::{
     Command, LineFault, is_quit, pad_reads_few_forms, quit_is_quit, read_line, read_pad_line,
 };
 pub use cut::{Lines, count_lines, drop_cr, line_end};
-
-#[cfg(test)]
-mod tests;

@@ -3,7 +3,6 @@ use Rattle.std.proofs.Common.{List, [], ◌∷◌, ◌++◌, ◌≡◌, ℕ, zer
 use Rattle.bj_core.specs.declared.types.Span.{Span}
 use Rattle.bj_tree.specs.declared.expr.ExprTree.{ExprTree}
 use Rattle.bj_grammar.specs.declared.stop.Stop.{Stop}
-use Rattle.bj_grammar.specs.declared.stop.Stop.TheVariants as f
 use Rattle.bj_grammar.specs.declared.terminal.Terminal.TheVariants as t
 use Rattle.bj_grammar.specs.Terminal.{terminal, same_terminal, among}
 use Rattle.bj_grammar.specs.Reader.{Text, Answer, Found, Wrong, Over, Parser, and_then, ◌>>=◌, pure, over, nowhere, sign, choose, loop}

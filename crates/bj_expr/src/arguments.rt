@@ -6,10 +6,12 @@ use crate::reader::Reader;
 use crate::{Bounds, Part};
 use bj_grammar::{Stop, Symbol, Terminal, out_of_turns, sees, word};
 use bj_tree::{ExprTree, ExprTrees};
-use sqlite_items::Items;
+use sqlite_items::{Boxed, Items};
 use std::alloc::Global;
 
-impl<F: Fn(Global, &[Symbol], Bounds, usize, Part) -> Result<(ExprTree, usize), Stop>> Reader<F> {
+impl<
+    F: Fn(Global, &[Symbol], Bounds, usize, Part) -> Result<(Boxed<ExprTree>, usize), Stop>,
+> Reader<F> {
     /// A comma and an expression, after others.
     #[tactic(auto, unfolding(crate::specs::Reading::comma))]
     pub(crate) fn comma(
@@ -23,7 +25,7 @@ impl<F: Fn(Global, &[Symbol], Bounds, usize, Part) -> Result<(ExprTree, usize), 
     {
         let at = word(tokens, at, Terminal::Comma)?;
         let (next, at) = self.nest(tokens, at, Part::Expression)?;
-        found.push(next)?;
+        found.push(next.into_inner())?;
         Ok((found, at))
     }
 
@@ -57,7 +59,7 @@ impl<F: Fn(Global, &[Symbol], Bounds, usize, Part) -> Result<(ExprTree, usize), 
     {
         let (first, at) = self.nest(tokens, at, Part::Expression)?;
         let mut found = Items::new(self.alloc);
-        found.push(first)?;
+        found.push(first.into_inner())?;
         self.commas(tokens, found, at)
     }
 

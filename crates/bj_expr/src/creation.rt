@@ -13,10 +13,12 @@ use crate::{Bounds, Part};
 use bj_core::JText;
 use bj_grammar::{Stop, Symbol, Terminal, out_of_turns, place, sees, units, word};
 use bj_tree::{ExprTree, ExprTrees};
-use sqlite_items::Items;
+use sqlite_items::{Boxed, Items};
 use std::alloc::Global;
 
-impl<F: Fn(Global, &[Symbol], Bounds, usize, Part) -> Result<(ExprTree, usize), Stop>> Reader<F> {
+impl<
+    F: Fn(Global, &[Symbol], Bounds, usize, Part) -> Result<(Boxed<ExprTree>, usize), Stop>,
+> Reader<F> {
     /// The values of a new array, whose type has so many pairs of brackets.
     #[tactic(auto, unfolding(crate::specs::Reading::valued))]
     pub(crate) fn valued(
@@ -26,7 +28,7 @@ impl<F: Fn(Global, &[Symbol], Bounds, usize, Part) -> Result<(ExprTree, usize), 
         element: usize,
         dims: u32,
         at: usize,
-    ) -> Result<(ExprTree, usize), Stop>
+    ) -> Result<(Boxed<ExprTree>, usize), Stop>
         requires { Nests self.now.bounds (F.pre self.now.nested) (F.post self.now.nested) }
         ensures { Gives result (over_nested spec.valued tokens.now self.now.bounds start element (text_of tokens.now element) dims (text_of tokens.now) at) }
     {
@@ -37,7 +39,7 @@ impl<F: Fn(Global, &[Symbol], Bounds, usize, Part) -> Result<(ExprTree, usize), 
             of,
             values,
         };
-        Ok((tree, at))
+        self.node(tree, at)
     }
 
     /// The sizes behind some, and how many pairs of brackets without a size follow them.
@@ -78,7 +80,7 @@ impl<F: Fn(Global, &[Symbol], Bounds, usize, Part) -> Result<(ExprTree, usize), 
     {
         let (next, at) = self.nest(tokens, at, Part::Expression)?;
         let at = word(tokens, at, Terminal::RightBracket)?;
-        found.push(next)?;
+        found.push(next.into_inner())?;
         Ok((found, at))
     }
 
@@ -105,14 +107,14 @@ impl<F: Fn(Global, &[Symbol], Bounds, usize, Part) -> Result<(ExprTree, usize), 
         start: usize,
         element: usize,
         at: usize,
-    ) -> Result<(ExprTree, usize), Stop>
+    ) -> Result<(Boxed<ExprTree>, usize), Stop>
         requires { Nests self.now.bounds (F.pre self.now.nested) (F.post self.now.nested) }
         ensures { Gives result (over_nested spec.sized tokens.now self.now.bounds start element (text_of tokens.now element) (text_of tokens.now) at) }
     {
         let (first, at) = self.nest(tokens, at, Part::Expression)?;
         let at = word(tokens, at, Terminal::RightBracket)?;
         let mut found = Items::new(self.alloc);
-        found.push(first)?;
+        found.push(first.into_inner())?;
         let ((sizes, dims), at) = self.more_sizes(tokens, found, at)?;
         let of = element_type(self.alloc, tokens, element, 0)?;
         let tree = ExprTree::NewArray {
@@ -121,7 +123,7 @@ impl<F: Fn(Global, &[Symbol], Bounds, usize, Part) -> Result<(ExprTree, usize), 
             sizes,
             dims,
         };
-        Ok((tree, at))
+        self.node(tree, at)
     }
 
     /// A new array with its values, from the first closing bracket on.
@@ -131,7 +133,7 @@ impl<F: Fn(Global, &[Symbol], Bounds, usize, Part) -> Result<(ExprTree, usize), 
         start: usize,
         element: usize,
         at: usize,
-    ) -> Result<(ExprTree, usize), Stop>
+    ) -> Result<(Boxed<ExprTree>, usize), Stop>
         requires { Nests self.now.bounds (F.pre self.now.nested) (F.post self.now.nested) }
         ensures { Gives result (over_nested spec.unsized tokens.now self.now.bounds start element (text_of tokens.now element) (text_of tokens.now) at) }
     {
@@ -148,7 +150,7 @@ impl<F: Fn(Global, &[Symbol], Bounds, usize, Part) -> Result<(ExprTree, usize), 
         start: usize,
         element: usize,
         at: usize,
-    ) -> Result<(ExprTree, usize), Stop>
+    ) -> Result<(Boxed<ExprTree>, usize), Stop>
         requires { Nests self.now.bounds (F.pre self.now.nested) (F.post self.now.nested) }
         ensures { Gives result (over_nested spec.array tokens.now self.now.bounds start element (text_of tokens.now element) (text_of tokens.now) at) }
     {
@@ -170,7 +172,7 @@ impl<F: Fn(Global, &[Symbol], Bounds, usize, Part) -> Result<(ExprTree, usize), 
         start: usize,
         class: JText,
         at: usize,
-    ) -> Result<(ExprTree, usize), Stop>
+    ) -> Result<(Boxed<ExprTree>, usize), Stop>
         requires { Nests self.now.bounds (F.pre self.now.nested) (F.post self.now.nested) }
         ensures { Gives result (over_nested spec.object tokens.now self.now.bounds start class (text_of tokens.now) at) }
     {
@@ -180,7 +182,7 @@ impl<F: Fn(Global, &[Symbol], Bounds, usize, Part) -> Result<(ExprTree, usize), 
             class,
             args,
         };
-        Ok((tree, at))
+        self.node(tree, at)
     }
 
     /// A new object or array, whose class or element type is the token at the place `element`.
@@ -191,7 +193,7 @@ impl<F: Fn(Global, &[Symbol], Bounds, usize, Part) -> Result<(ExprTree, usize), 
         start: usize,
         element: usize,
         at: usize,
-    ) -> Result<(ExprTree, usize), Stop>
+    ) -> Result<(Boxed<ExprTree>, usize), Stop>
         requires { Nests self.now.bounds (F.pre self.now.nested) (F.post self.now.nested) }
         ensures { Gives result (over_nested spec.created tokens.now self.now.bounds start element (text_of tokens.now element) (text_of tokens.now) at) }
     {
@@ -212,7 +214,7 @@ impl<F: Fn(Global, &[Symbol], Bounds, usize, Part) -> Result<(ExprTree, usize), 
         tokens: &[Symbol],
         start: usize,
         at: usize,
-    ) -> Result<(ExprTree, usize), Stop>
+    ) -> Result<(Boxed<ExprTree>, usize), Stop>
         requires { Nests self.now.bounds (F.pre self.now.nested) (F.post self.now.nested) }
         ensures { Gives result (over_nested spec.creation tokens.now self.now.bounds start (text_of tokens.now) at) }
     {

@@ -1,4 +1,3 @@
-ghost use Rattle.std.specs.Prelude.{◌≡◌, IfOk};
 ghost use Rattle.bj_grammar.specs.declared.terminal.Terminal.TheVariants as t;
 ghost use Rattle.bj_grammar.specs.Reader.{Found, and_then, sign};
 ghost use Rattle.bj_expr.specs.declared.part.Part.TheVariants as part;
@@ -13,65 +12,25 @@ use crate::operators::assign_op;
 use crate::reader::Reader;
 use crate::sets::{assign_at, is_assign};
 use crate::{Bounds, Part};
-use bj_core::Span;
 use bj_grammar::{Stop, Symbol, Terminal, place, sees, word};
 use bj_tree::ExprTree;
 use sqlite_items::Boxed;
-use std::alloc::{AllocError, Global};
+use std::alloc::Global;
 
 /// How many ranks of operators with two operands there are.
 const RANKS: u8 = 10;
 
-/// A node of a conditional expression.
-fn conditional(
-    alloc: Global,
-    at: Span,
-    test: ExprTree,
-    chosen: ExprTree,
-    other: ExprTree,
-) -> Result<ExprTree, AllocError>
-    ensures { IfOk result (λ tree. tree ≡ trees.Conditional at test chosen other) }
-{
-    let test = Boxed::new(alloc, test)?;
-    let chosen = Boxed::new(alloc, chosen)?;
-    let other = Boxed::new(alloc, other)?;
-    Ok(ExprTree::Conditional {
-        at,
-        test,
-        chosen,
-        other,
-    })
-}
-
-/// A node of an assignment.
-fn assigning(
-    alloc: Global,
-    at: Span,
-    op: Terminal,
-    target: ExprTree,
-    value: ExprTree,
-) -> Result<ExprTree, AllocError>
-    ensures { IfOk result (λ tree. tree ≡ trees.Assign at (grammar.assign_op op) target value) }
-{
-    let target = Boxed::new(alloc, target)?;
-    let value = Boxed::new(alloc, value)?;
-    Ok(ExprTree::Assign {
-        at,
-        op: assign_op(op),
-        target,
-        value,
-    })
-}
-
-impl<F: Fn(Global, &[Symbol], Bounds, usize, Part) -> Result<(ExprTree, usize), Stop>> Reader<F> {
+impl<
+    F: Fn(Global, &[Symbol], Bounds, usize, Part) -> Result<(Boxed<ExprTree>, usize), Stop>,
+> Reader<F> {
     /// The two ways, after the question mark.
     fn ways(
         &self,
         tokens: &[Symbol],
         start: usize,
-        test: ExprTree,
+        test: Boxed<ExprTree>,
         at: usize,
-    ) -> Result<(ExprTree, usize), Stop>
+    ) -> Result<(Boxed<ExprTree>, usize), Stop>
         requires { Nests self.now.bounds (F.pre self.now.nested) (F.post self.now.nested) }
         ensures { Gives result (and_then (part_of tokens.now self.now.bounds part.Expression (text_of tokens.now) at) (λ y j. sign t.Colon (over_nested spec.otherwise tokens.now self.now.bounds start test y) (text_of tokens.now) j)) }
     {
@@ -86,9 +45,9 @@ impl<F: Fn(Global, &[Symbol], Bounds, usize, Part) -> Result<(ExprTree, usize), 
         &self,
         tokens: &[Symbol],
         start: usize,
-        test: ExprTree,
+        test: Boxed<ExprTree>,
         at: usize,
-    ) -> Result<(ExprTree, usize), Stop>
+    ) -> Result<(Boxed<ExprTree>, usize), Stop>
         requires { Nests self.now.bounds (F.pre self.now.nested) (F.post self.now.nested) }
         ensures { Gives result (over_nested spec.alternatives tokens.now self.now.bounds start test (text_of tokens.now) at) }
     {
@@ -103,16 +62,21 @@ impl<F: Fn(Global, &[Symbol], Bounds, usize, Part) -> Result<(ExprTree, usize), 
         &self,
         tokens: &[Symbol],
         start: usize,
-        test: ExprTree,
-        chosen: ExprTree,
+        test: Boxed<ExprTree>,
+        chosen: Boxed<ExprTree>,
         at: usize,
-    ) -> Result<(ExprTree, usize), Stop>
+    ) -> Result<(Boxed<ExprTree>, usize), Stop>
         requires { Nests self.now.bounds (F.pre self.now.nested) (F.post self.now.nested) }
         ensures { Gives result (over_nested spec.otherwise tokens.now self.now.bounds start test chosen (text_of tokens.now) at) }
     {
         let (other, at) = self.nest(tokens, at, Part::Conditional)?;
-        let tree = conditional(self.alloc, place(tokens, start), test, chosen, other)?;
-        Ok((tree, at))
+        let tree = ExprTree::Conditional {
+            at: place(tokens, start),
+            test,
+            chosen,
+            other,
+        };
+        self.node(tree, at)
     }
 
     /// The two ways of a conditional expression, if a question mark comes next.
@@ -121,9 +85,9 @@ impl<F: Fn(Global, &[Symbol], Bounds, usize, Part) -> Result<(ExprTree, usize), 
         &self,
         tokens: &[Symbol],
         start: usize,
-        test: ExprTree,
+        test: Boxed<ExprTree>,
         at: usize,
-    ) -> Result<(ExprTree, usize), Stop>
+    ) -> Result<(Boxed<ExprTree>, usize), Stop>
         requires { Nests self.now.bounds (F.pre self.now.nested) (F.post self.now.nested) }
         ensures { Gives result (over_nested spec.chosen tokens.now self.now.bounds start test (text_of tokens.now) at) }
     {
@@ -139,7 +103,7 @@ impl<F: Fn(Global, &[Symbol], Bounds, usize, Part) -> Result<(ExprTree, usize), 
         &self,
         tokens: &[Symbol],
         start: usize,
-    ) -> Result<(ExprTree, usize), Stop>
+    ) -> Result<(Boxed<ExprTree>, usize), Stop>
         requires { Nests self.now.bounds (F.pre self.now.nested) (F.post self.now.nested) }
         ensures { Gives result (over_nested spec.conditional tokens.now self.now.bounds (text_of tokens.now) start) }
     {
@@ -153,15 +117,20 @@ impl<F: Fn(Global, &[Symbol], Bounds, usize, Part) -> Result<(ExprTree, usize), 
         tokens: &[Symbol],
         start: usize,
         op: Terminal,
-        target: ExprTree,
+        target: Boxed<ExprTree>,
         at: usize,
-    ) -> Result<(ExprTree, usize), Stop>
+    ) -> Result<(Boxed<ExprTree>, usize), Stop>
         requires { Nests self.now.bounds (F.pre self.now.nested) (F.post self.now.nested) }
         ensures { Gives result (and_then (part_of tokens.now self.now.bounds part.Expression (text_of tokens.now) at) (λ r j. Found (trees.Assign (place_of tokens.now start) (grammar.assign_op op) target r) j)) }
     {
         let (value, at) = self.nest(tokens, at, Part::Expression)?;
-        let tree = assigning(self.alloc, place(tokens, start), op, target, value)?;
-        Ok((tree, at))
+        let tree = ExprTree::Assign {
+            at: place(tokens, start),
+            op: assign_op(op),
+            target,
+            value,
+        };
+        self.node(tree, at)
     }
 
     /// An operator of assignment and what is assigned [JLS 15.26].
@@ -170,9 +139,9 @@ impl<F: Fn(Global, &[Symbol], Bounds, usize, Part) -> Result<(ExprTree, usize), 
         &self,
         tokens: &[Symbol],
         start: usize,
-        target: ExprTree,
+        target: Boxed<ExprTree>,
         at: usize,
-    ) -> Result<(ExprTree, usize), Stop>
+    ) -> Result<(Boxed<ExprTree>, usize), Stop>
         requires { Nests self.now.bounds (F.pre self.now.nested) (F.post self.now.nested) }
         ensures { Gives result (over_nested spec.assignment tokens.now self.now.bounds start target (text_of tokens.now) at) }
     {
@@ -187,13 +156,13 @@ impl<F: Fn(Global, &[Symbol], Bounds, usize, Part) -> Result<(ExprTree, usize), 
         &self,
         tokens: &[Symbol],
         start: usize,
-        target: ExprTree,
+        target: Boxed<ExprTree>,
         at: usize,
-    ) -> Result<(ExprTree, usize), Stop>
+    ) -> Result<(Boxed<ExprTree>, usize), Stop>
         requires { Nests self.now.bounds (F.pre self.now.nested) (F.post self.now.nested) }
         ensures { Gives result (over_nested spec.assigned tokens.now self.now.bounds start target (text_of tokens.now) at) }
     {
-        if is_unary(&target) {
+        if is_unary(target.get()) {
             if is_assign(tokens, at) {
                 return self.assignment(tokens, start, target, at);
             }
@@ -208,7 +177,7 @@ impl<F: Fn(Global, &[Symbol], Bounds, usize, Part) -> Result<(ExprTree, usize), 
         &self,
         tokens: &[Symbol],
         start: usize,
-    ) -> Result<(ExprTree, usize), Stop>
+    ) -> Result<(Boxed<ExprTree>, usize), Stop>
         requires { Nests self.now.bounds (F.pre self.now.nested) (F.post self.now.nested) }
         ensures { Gives result (over_nested spec.expression tokens.now self.now.bounds (text_of tokens.now) start) }
     {
@@ -222,7 +191,7 @@ impl<F: Fn(Global, &[Symbol], Bounds, usize, Part) -> Result<(ExprTree, usize), 
         &self,
         tokens: &[Symbol],
         start: usize,
-    ) -> Result<(ExprTree, usize), Stop>
+    ) -> Result<(Boxed<ExprTree>, usize), Stop>
         requires { Nests self.now.bounds (F.pre self.now.nested) (F.post self.now.nested) }
         ensures { Gives result (over_nested spec.initializer tokens.now self.now.bounds (text_of tokens.now) start) }
     {
@@ -232,7 +201,7 @@ impl<F: Fn(Global, &[Symbol], Bounds, usize, Part) -> Result<(ExprTree, usize), 
                 at: place(tokens, start),
                 values,
             };
-            return Ok((tree, at));
+            return self.node(tree, at);
         }
         self.expression(tokens, start)
     }
@@ -244,7 +213,7 @@ impl<F: Fn(Global, &[Symbol], Bounds, usize, Part) -> Result<(ExprTree, usize), 
         tokens: &[Symbol],
         start: usize,
         part: Part,
-    ) -> Result<(ExprTree, usize), Stop>
+    ) -> Result<(Boxed<ExprTree>, usize), Stop>
         requires { Nests self.now.bounds (F.pre self.now.nested) (F.post self.now.nested) }
         ensures { Gives result (over_nested spec.rule tokens.now self.now.bounds part (text_of tokens.now) start) }
     {

@@ -1,4 +1,3 @@
-ghost use Rattle.std.specs.Prelude.{◌≡◌, IfOk};
 ghost use Rattle.bj_grammar.specs.Reader.{Found, and_then};
 ghost use Rattle.bj_expr.specs.declared.part.Part.TheVariants as part;
 ghost use Rattle.bj_expr.specs.Grammar as grammar;
@@ -12,50 +11,31 @@ use crate::reader::Reader;
 use crate::sets::{goes_on, is_relational, op_at};
 use crate::types::type_at;
 use crate::{Bounds, Part};
-use bj_core::Span;
 use bj_grammar::{Stop, Symbol, Terminal, out_of_turns, place, sees, word};
 use bj_tree::ExprTree;
 use sqlite_items::Boxed;
-use std::alloc::{AllocError, Global};
+use std::alloc::Global;
 
-/// A node of an operator with two operands.
-fn binary(
-    alloc: Global,
-    at: Span,
-    op: Terminal,
-    left: ExprTree,
-    right: ExprTree,
-) -> Result<ExprTree, AllocError>
-    ensures { IfOk result (λ tree. tree ≡ trees.Binary at (grammar.binary_op op) left right) }
-{
-    let left = Boxed::new(alloc, left)?;
-    let right = Boxed::new(alloc, right)?;
-    Ok(ExprTree::Binary {
-        at,
-        op: binary_op(op),
-        left,
-        right,
-    })
-}
-
-impl<F: Fn(Global, &[Symbol], Bounds, usize, Part) -> Result<(ExprTree, usize), Stop>> Reader<F> {
+impl<
+    F: Fn(Global, &[Symbol], Bounds, usize, Part) -> Result<(Boxed<ExprTree>, usize), Stop>,
+> Reader<F> {
     /// The type, after `instanceof`.
     fn of_type(
         &self,
         tokens: &[Symbol],
         start: usize,
-        value: ExprTree,
+        value: Boxed<ExprTree>,
         at: usize,
-    ) -> Result<(ExprTree, usize), Stop>
+    ) -> Result<(Boxed<ExprTree>, usize), Stop>
         ensures { Gives result (and_then (spec.type_at (place_of tokens.now) self.now.bounds.most (text_of tokens.now) at) (λ ty j. Found (trees.InstanceOf (place_of tokens.now start) value ty) j)) }
     {
         let (of, at) = type_at(self.alloc, tokens, self.bounds.most, at)?;
         let tree = ExprTree::InstanceOf {
             at: place(tokens, start),
-            value: Boxed::new(self.alloc, value)?,
+            value,
             of,
         };
-        Ok((tree, at))
+        self.node(tree, at)
     }
 
     /// `instanceof` and its type [JLS 15.20.2].
@@ -64,9 +44,9 @@ impl<F: Fn(Global, &[Symbol], Bounds, usize, Part) -> Result<(ExprTree, usize), 
         &self,
         tokens: &[Symbol],
         start: usize,
-        value: ExprTree,
+        value: Boxed<ExprTree>,
         at: usize,
-    ) -> Result<(ExprTree, usize), Stop>
+    ) -> Result<(Boxed<ExprTree>, usize), Stop>
         requires { Nests self.now.bounds (F.pre self.now.nested) (F.post self.now.nested) }
         ensures { Gives result (over_nested spec.instance tokens.now self.now.bounds start value (text_of tokens.now) at) }
     {
@@ -81,7 +61,7 @@ impl<F: Fn(Global, &[Symbol], Bounds, usize, Part) -> Result<(ExprTree, usize), 
         tokens: &[Symbol],
         start: usize,
         rank: u8,
-    ) -> Result<(ExprTree, usize), Stop>
+    ) -> Result<(Boxed<ExprTree>, usize), Stop>
         requires { Nests self.now.bounds (F.pre self.now.nested) (F.post self.now.nested) }
         ensures { Gives result (over_nested spec.level tokens.now self.now.bounds rank (text_of tokens.now) start) }
     {
@@ -99,15 +79,20 @@ impl<F: Fn(Global, &[Symbol], Bounds, usize, Part) -> Result<(ExprTree, usize), 
         start: usize,
         rank: u8,
         op: Terminal,
-        left: ExprTree,
+        left: Boxed<ExprTree>,
         at: usize,
-    ) -> Result<(ExprTree, usize), Stop>
+    ) -> Result<(Boxed<ExprTree>, usize), Stop>
         requires { Nests self.now.bounds (F.pre self.now.nested) (F.post self.now.nested) }
         ensures { Gives result (and_then (part_of tokens.now self.now.bounds (part.Operand rank) (text_of tokens.now) at) (λ r j. Found (trees.Binary (place_of tokens.now start) (grammar.binary_op op) left r) j)) }
     {
         let (right, at) = self.nest(tokens, at, Part::Operand(rank))?;
-        let tree = binary(self.alloc, place(tokens, start), op, left, right)?;
-        Ok((tree, at))
+        let tree = ExprTree::Binary {
+            at: place(tokens, start),
+            op: binary_op(op),
+            left,
+            right,
+        };
+        self.node(tree, at)
     }
 
     /// An operator of the rank and its right operand, after a left one [JLS 15.17 to 15.24].
@@ -117,9 +102,9 @@ impl<F: Fn(Global, &[Symbol], Bounds, usize, Part) -> Result<(ExprTree, usize), 
         tokens: &[Symbol],
         start: usize,
         rank: u8,
-        left: ExprTree,
+        left: Boxed<ExprTree>,
         at: usize,
-    ) -> Result<(ExprTree, usize), Stop>
+    ) -> Result<(Boxed<ExprTree>, usize), Stop>
         requires { Nests self.now.bounds (F.pre self.now.nested) (F.post self.now.nested) }
         ensures { Gives result (over_nested spec.binary tokens.now self.now.bounds rank start left (text_of tokens.now) at) }
     {
@@ -135,9 +120,9 @@ impl<F: Fn(Global, &[Symbol], Bounds, usize, Part) -> Result<(ExprTree, usize), 
         tokens: &[Symbol],
         start: usize,
         rank: u8,
-        left: ExprTree,
+        left: Boxed<ExprTree>,
         at: usize,
-    ) -> Result<(ExprTree, usize), Stop>
+    ) -> Result<(Boxed<ExprTree>, usize), Stop>
         requires { Nests self.now.bounds (F.pre self.now.nested) (F.post self.now.nested) }
         ensures { Gives result (over_nested spec.operation tokens.now self.now.bounds rank start left (text_of tokens.now) at) }
     {
@@ -156,9 +141,9 @@ impl<F: Fn(Global, &[Symbol], Bounds, usize, Part) -> Result<(ExprTree, usize), 
         tokens: &[Symbol],
         start: usize,
         rank: u8,
-        mut left: ExprTree,
+        mut left: Boxed<ExprTree>,
         mut at: usize,
-    ) -> Result<(ExprTree, usize), Stop>
+    ) -> Result<(Boxed<ExprTree>, usize), Stop>
         requires { Nests self.now.bounds (F.pre self.now.nested) (F.post self.now.nested) }
         ensures { Gives result (operations_of self.now.bounds tokens.now rank start left (text_of tokens.now) at) }
     {

@@ -5,6 +5,7 @@ use crate::reader::Reader;
 use crate::{Bounds, Part};
 use bj_grammar::{Stop, Symbol, place};
 use bj_tree::ExprTree;
+use sqlite_items::Boxed;
 use std::alloc::Global;
 
 /// The part of the text that begins at a place, by the grammar of expressions and initializers [JLS 8.3, 10.6, 15], and the place
@@ -28,7 +29,7 @@ pub fn part_at(
     bounds: Bounds,
     at: usize,
     part: Part,
-) -> Result<(ExprTree, usize), Stop>
+) -> Result<(Boxed<ExprTree>, usize), Stop>
     ensures { Gives result (part_of tokens.now bounds part (text_of tokens.now) at) }
 {
     if bounds.room == 0 {

@@ -11,16 +11,18 @@ use bj_tree::ExprTree;
 use sqlite_items::Boxed;
 use std::alloc::Global;
 
-impl<F: Fn(Global, &[Symbol], Bounds, usize, Part) -> Result<(ExprTree, usize), Stop>> Reader<F> {
+impl<
+    F: Fn(Global, &[Symbol], Bounds, usize, Part) -> Result<(Boxed<ExprTree>, usize), Stop>,
+> Reader<F> {
     /// `++` or `--` behind an operand.
     #[tactic(auto, unfolding(crate::specs::Reading::postfix_step))]
     pub(crate) fn postfix_step(
         &self,
         tokens: &[Symbol],
         start: usize,
-        operand: ExprTree,
+        operand: Boxed<ExprTree>,
         at: usize,
-    ) -> Result<(ExprTree, usize), Stop>
+    ) -> Result<(Boxed<ExprTree>, usize), Stop>
         requires { Nests self.now.bounds (F.pre self.now.nested) (F.post self.now.nested) }
         ensures { Gives result (over_nested spec.postfix_step tokens.now self.now.bounds start operand (text_of tokens.now) at) }
     {
@@ -29,9 +31,9 @@ impl<F: Fn(Global, &[Symbol], Bounds, usize, Part) -> Result<(ExprTree, usize), 
         let tree = ExprTree::Postfix {
             at: place(tokens, start),
             op: step_op(op),
-            operand: Boxed::new(self.alloc, operand)?,
+            operand,
         };
-        Ok((tree, at))
+        self.node(tree, at)
     }
 
     /// Each `++` and `--` behind an operand.
@@ -39,9 +41,9 @@ impl<F: Fn(Global, &[Symbol], Bounds, usize, Part) -> Result<(ExprTree, usize), 
         &self,
         tokens: &[Symbol],
         start: usize,
-        mut operand: ExprTree,
+        mut operand: Boxed<ExprTree>,
         mut at: usize,
-    ) -> Result<(ExprTree, usize), Stop>
+    ) -> Result<(Boxed<ExprTree>, usize), Stop>
         requires { Nests self.now.bounds (F.pre self.now.nested) (F.post self.now.nested) }
         ensures { Gives result (steps_of self.now.bounds tokens.now start operand (text_of tokens.now) at) }
     {
@@ -59,7 +61,11 @@ impl<F: Fn(Global, &[Symbol], Bounds, usize, Part) -> Result<(ExprTree, usize), 
 
     /// A postfix expression [JLS 15.14].
     #[tactic(auto, unfolding(crate::specs::Reading::postfix))]
-    pub(crate) fn postfix(&self, tokens: &[Symbol], start: usize) -> Result<(ExprTree, usize), Stop>
+    pub(crate) fn postfix(
+        &self,
+        tokens: &[Symbol],
+        start: usize,
+    ) -> Result<(Boxed<ExprTree>, usize), Stop>
         requires { Nests self.now.bounds (F.pre self.now.nested) (F.post self.now.nested) }
         ensures { Gives result (over_nested spec.postfix tokens.now self.now.bounds (text_of tokens.now) start) }
     {

@@ -12,7 +12,9 @@ use bj_tree::ExprTree;
 use sqlite_items::Boxed;
 use std::alloc::Global;
 
-impl<F: Fn(Global, &[Symbol], Bounds, usize, Part) -> Result<(ExprTree, usize), Stop>> Reader<F> {
+impl<
+    F: Fn(Global, &[Symbol], Bounds, usize, Part) -> Result<(Boxed<ExprTree>, usize), Stop>,
+> Reader<F> {
     /// A name, or a call where a parenthesis comes next.
     #[tactic(auto, unfolding(crate::specs::Reading::named))]
     pub(crate) fn named(
@@ -21,7 +23,7 @@ impl<F: Fn(Global, &[Symbol], Bounds, usize, Part) -> Result<(ExprTree, usize), 
         start: usize,
         name: JText,
         at: usize,
-    ) -> Result<(ExprTree, usize), Stop>
+    ) -> Result<(Boxed<ExprTree>, usize), Stop>
         requires { Nests self.now.bounds (F.pre self.now.nested) (F.post self.now.nested) }
         ensures { Gives result (over_nested spec.named tokens.now self.now.bounds start name (text_of tokens.now) at) }
     {
@@ -32,13 +34,13 @@ impl<F: Fn(Global, &[Symbol], Bounds, usize, Part) -> Result<(ExprTree, usize), 
                 name,
                 args,
             };
-            return Ok((tree, at));
+            return self.node(tree, at);
         }
         let tree = ExprTree::Name {
             at: place(tokens, start),
             name,
         };
-        Ok((tree, at))
+        self.node(tree, at)
     }
 
     /// A field or a call by `super`.
@@ -49,7 +51,7 @@ impl<F: Fn(Global, &[Symbol], Bounds, usize, Part) -> Result<(ExprTree, usize), 
         start: usize,
         name: JText,
         at: usize,
-    ) -> Result<(ExprTree, usize), Stop>
+    ) -> Result<(Boxed<ExprTree>, usize), Stop>
         requires { Nests self.now.bounds (F.pre self.now.nested) (F.post self.now.nested) }
         ensures { Gives result (over_nested spec.of_super tokens.now self.now.bounds start name (text_of tokens.now) at) }
     {
@@ -60,13 +62,13 @@ impl<F: Fn(Global, &[Symbol], Bounds, usize, Part) -> Result<(ExprTree, usize), 
                 name,
                 args,
             };
-            return Ok((tree, at));
+            return self.node(tree, at);
         }
         let tree = ExprTree::SuperField {
             at: place(tokens, start),
             name,
         };
-        Ok((tree, at))
+        self.node(tree, at)
     }
 
     /// An expression in parentheses [JLS 15.8.5].
@@ -76,7 +78,7 @@ impl<F: Fn(Global, &[Symbol], Bounds, usize, Part) -> Result<(ExprTree, usize), 
         tokens: &[Symbol],
         start: usize,
         at: usize,
-    ) -> Result<(ExprTree, usize), Stop>
+    ) -> Result<(Boxed<ExprTree>, usize), Stop>
         requires { Nests self.now.bounds (F.pre self.now.nested) (F.post self.now.nested) }
         ensures { Gives result (over_nested spec.parenthesized tokens.now self.now.bounds start (text_of tokens.now) at) }
     {
@@ -85,9 +87,9 @@ impl<F: Fn(Global, &[Symbol], Bounds, usize, Part) -> Result<(ExprTree, usize), 
         let at = word(tokens, at, Terminal::RightParen)?;
         let tree = ExprTree::Paren {
             at: place(tokens, start),
-            inner: Boxed::new(self.alloc, inner)?,
+            inner,
         };
-        Ok((tree, at))
+        self.node(tree, at)
     }
 
     /// `super`, a dot and a name [JLS 15.11.2, 15.12].
@@ -97,7 +99,7 @@ impl<F: Fn(Global, &[Symbol], Bounds, usize, Part) -> Result<(ExprTree, usize), 
         tokens: &[Symbol],
         start: usize,
         at: usize,
-    ) -> Result<(ExprTree, usize), Stop>
+    ) -> Result<(Boxed<ExprTree>, usize), Stop>
         requires { Nests self.now.bounds (F.pre self.now.nested) (F.post self.now.nested) }
         ensures { Gives result (over_nested spec.by_super tokens.now self.now.bounds start (text_of tokens.now) at) }
     {
@@ -115,7 +117,7 @@ impl<F: Fn(Global, &[Symbol], Bounds, usize, Part) -> Result<(ExprTree, usize), 
         tokens: &[Symbol],
         start: usize,
         at: usize,
-    ) -> Result<(ExprTree, usize), Stop>
+    ) -> Result<(Boxed<ExprTree>, usize), Stop>
         requires { Nests self.now.bounds (F.pre self.now.nested) (F.post self.now.nested) }
         ensures { Gives result (over_nested spec.by_name tokens.now self.now.bounds start (text_of tokens.now) at) }
     {
@@ -131,7 +133,7 @@ impl<F: Fn(Global, &[Symbol], Bounds, usize, Part) -> Result<(ExprTree, usize), 
         tokens: &[Symbol],
         start: usize,
         at: usize,
-    ) -> Result<(ExprTree, usize), Stop>
+    ) -> Result<(Boxed<ExprTree>, usize), Stop>
         requires { Nests self.now.bounds (F.pre self.now.nested) (F.post self.now.nested) }
         ensures { Gives result (over_nested spec.literal tokens.now self.now.bounds start (text_of tokens.now) at) }
     {
@@ -142,12 +144,16 @@ impl<F: Fn(Global, &[Symbol], Bounds, usize, Part) -> Result<(ExprTree, usize), 
             kind: literal_kind(found),
             text,
         };
-        Ok((tree, at))
+        self.node(tree, at)
     }
 
     /// A primary expression, without what is selected from it [JLS 15.8].
     #[tactic(auto, unfolding(crate::specs::Reading::primary))]
-    pub(crate) fn primary(&self, tokens: &[Symbol], start: usize) -> Result<(ExprTree, usize), Stop>
+    pub(crate) fn primary(
+        &self,
+        tokens: &[Symbol],
+        start: usize,
+    ) -> Result<(Boxed<ExprTree>, usize), Stop>
         requires { Nests self.now.bounds (F.pre self.now.nested) (F.post self.now.nested) }
         ensures { Gives result (over_nested spec.primary tokens.now self.now.bounds (text_of tokens.now) start) }
     {
@@ -159,7 +165,7 @@ impl<F: Fn(Global, &[Symbol], Bounds, usize, Part) -> Result<(ExprTree, usize), 
             let tree = ExprTree::This {
                 at: place(tokens, start),
             };
-            return Ok((tree, at));
+            return self.node(tree, at);
         }
         if sees(tokens, start, Terminal::LeftParen) {
             return self.parenthesized(tokens, start, start);

@@ -1,4 +1,3 @@
-ghost use Rattle.std.specs.Prelude.{◌≡◌, IfOk};
 ghost use Rattle.bj_grammar.specs.declared.terminal.Terminal.TheVariants as t;
 ghost use Rattle.bj_grammar.specs.Reader.{and_then, sign, pure};
 ghost use Rattle.bj_expr.specs.declared.part.Part.TheVariants as part;
@@ -11,37 +10,25 @@ use crate::forms::is_new_array;
 use crate::reader::Reader;
 use crate::sets::is_selector;
 use crate::{Bounds, Part};
-use bj_core::{JText, Span};
+use bj_core::JText;
 use bj_grammar::{Stop, Symbol, Terminal, out_of_turns, place, sees, units, word};
 use bj_tree::ExprTree;
 use sqlite_items::Boxed;
-use std::alloc::{AllocError, Global};
+use std::alloc::Global;
 
-/// A node of an element of an array.
-fn indexed(
-    alloc: Global,
-    at: Span,
-    array: ExprTree,
-    index: ExprTree,
-) -> Result<ExprTree, AllocError>
-    ensures { IfOk result (λ tree. tree ≡ trees.Index at array index) }
-{
-    let array = Boxed::new(alloc, array)?;
-    let index = Boxed::new(alloc, index)?;
-    Ok(ExprTree::Index { at, array, index })
-}
-
-impl<F: Fn(Global, &[Symbol], Bounds, usize, Part) -> Result<(ExprTree, usize), Stop>> Reader<F> {
+impl<
+    F: Fn(Global, &[Symbol], Bounds, usize, Part) -> Result<(Boxed<ExprTree>, usize), Stop>,
+> Reader<F> {
     /// A field or a call, from behind its name on [JLS 15.11, 15.12].
     #[tactic(auto, unfolding(crate::specs::Reading::member))]
     pub(crate) fn member(
         &self,
         tokens: &[Symbol],
         start: usize,
-        target: ExprTree,
+        target: Boxed<ExprTree>,
         name: JText,
         at: usize,
-    ) -> Result<(ExprTree, usize), Stop>
+    ) -> Result<(Boxed<ExprTree>, usize), Stop>
         requires { Nests self.now.bounds (F.pre self.now.nested) (F.post self.now.nested) }
         ensures { Gives result (over_nested spec.member tokens.now self.now.bounds start target name (text_of tokens.now) at) }
     {
@@ -49,18 +36,18 @@ impl<F: Fn(Global, &[Symbol], Bounds, usize, Part) -> Result<(ExprTree, usize), 
             let (args, at) = self.arguments(tokens, at)?;
             let tree = ExprTree::MethodCall {
                 at: place(tokens, start),
-                target: Boxed::new(self.alloc, target)?,
+                target,
                 name,
                 args,
             };
-            return Ok((tree, at));
+            return self.node(tree, at);
         }
         let tree = ExprTree::Field {
             at: place(tokens, start),
-            target: Boxed::new(self.alloc, target)?,
+            target,
             name,
         };
-        Ok((tree, at))
+        self.node(tree, at)
     }
 
     /// An index and its closing bracket.
@@ -68,16 +55,20 @@ impl<F: Fn(Global, &[Symbol], Bounds, usize, Part) -> Result<(ExprTree, usize), 
         &self,
         tokens: &[Symbol],
         start: usize,
-        array: ExprTree,
+        array: Boxed<ExprTree>,
         at: usize,
-    ) -> Result<(ExprTree, usize), Stop>
+    ) -> Result<(Boxed<ExprTree>, usize), Stop>
         requires { Nests self.now.bounds (F.pre self.now.nested) (F.post self.now.nested) }
         ensures { Gives result (and_then (part_of tokens.now self.now.bounds part.Expression (text_of tokens.now) at) (λ y j. sign t.RightBracket (pure (trees.Index (place_of tokens.now start) array y)) (text_of tokens.now) j)) }
     {
         let (index, at) = self.nest(tokens, at, Part::Expression)?;
         let at = word(tokens, at, Terminal::RightBracket)?;
-        let tree = indexed(self.alloc, place(tokens, start), array, index)?;
-        Ok((tree, at))
+        let tree = ExprTree::Index {
+            at: place(tokens, start),
+            array,
+            index,
+        };
+        self.node(tree, at)
     }
 
     /// An index in brackets [JLS 15.10.3].
@@ -86,9 +77,9 @@ impl<F: Fn(Global, &[Symbol], Bounds, usize, Part) -> Result<(ExprTree, usize), 
         &self,
         tokens: &[Symbol],
         start: usize,
-        array: ExprTree,
+        array: Boxed<ExprTree>,
         at: usize,
-    ) -> Result<(ExprTree, usize), Stop>
+    ) -> Result<(Boxed<ExprTree>, usize), Stop>
         requires { Nests self.now.bounds (F.pre self.now.nested) (F.post self.now.nested) }
         ensures { Gives result (over_nested spec.element tokens.now self.now.bounds start array (text_of tokens.now) at) }
     {
@@ -103,9 +94,9 @@ impl<F: Fn(Global, &[Symbol], Bounds, usize, Part) -> Result<(ExprTree, usize), 
         &self,
         tokens: &[Symbol],
         start: usize,
-        target: ExprTree,
+        target: Boxed<ExprTree>,
         at: usize,
-    ) -> Result<(ExprTree, usize), Stop>
+    ) -> Result<(Boxed<ExprTree>, usize), Stop>
         requires { Nests self.now.bounds (F.pre self.now.nested) (F.post self.now.nested) }
         ensures { Gives result (over_nested spec.dotted tokens.now self.now.bounds start target (text_of tokens.now) at) }
     {
@@ -122,13 +113,13 @@ impl<F: Fn(Global, &[Symbol], Bounds, usize, Part) -> Result<(ExprTree, usize), 
         &self,
         tokens: &[Symbol],
         start: usize,
-        target: ExprTree,
+        target: Boxed<ExprTree>,
         at: usize,
-    ) -> Result<(ExprTree, usize), Stop>
+    ) -> Result<(Boxed<ExprTree>, usize), Stop>
         requires { Nests self.now.bounds (F.pre self.now.nested) (F.post self.now.nested) }
         ensures { Gives result (over_nested spec.selection tokens.now self.now.bounds start target (text_of tokens.now) at) }
     {
-        if is_new_array(&target) {
+        if is_new_array(target.get()) {
             return self.dotted(tokens, start, target, at);
         }
         if sees(tokens, at, Terminal::LeftBracket) {
@@ -142,9 +133,9 @@ impl<F: Fn(Global, &[Symbol], Bounds, usize, Part) -> Result<(ExprTree, usize), 
         &self,
         tokens: &[Symbol],
         start: usize,
-        mut target: ExprTree,
+        mut target: Boxed<ExprTree>,
         mut at: usize,
-    ) -> Result<(ExprTree, usize), Stop>
+    ) -> Result<(Boxed<ExprTree>, usize), Stop>
         requires { Nests self.now.bounds (F.pre self.now.nested) (F.post self.now.nested) }
         ensures { Gives result (selections_of self.now.bounds tokens.now start target (text_of tokens.now) at) }
     {
@@ -166,7 +157,7 @@ impl<F: Fn(Global, &[Symbol], Bounds, usize, Part) -> Result<(ExprTree, usize), 
         &self,
         tokens: &[Symbol],
         start: usize,
-    ) -> Result<(ExprTree, usize), Stop>
+    ) -> Result<(Boxed<ExprTree>, usize), Stop>
         requires { Nests self.now.bounds (F.pre self.now.nested) (F.post self.now.nested) }
         ensures { Gives result (over_nested spec.selected tokens.now self.now.bounds (text_of tokens.now) start) }
     {

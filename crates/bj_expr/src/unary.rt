@@ -13,7 +13,9 @@ use bj_tree::{ExprTree, UnaryOp};
 use sqlite_items::Boxed;
 use std::alloc::Global;
 
-impl<F: Fn(Global, &[Symbol], Bounds, usize, Part) -> Result<(ExprTree, usize), Stop>> Reader<F> {
+impl<
+    F: Fn(Global, &[Symbol], Bounds, usize, Part) -> Result<(Boxed<ExprTree>, usize), Stop>,
+> Reader<F> {
     /// A cast [JLS 15.16].
     #[tactic(auto, unfolding(crate::specs::Reading::cast))]
     pub(crate) fn cast(
@@ -21,7 +23,7 @@ impl<F: Fn(Global, &[Symbol], Bounds, usize, Part) -> Result<(ExprTree, usize), 
         tokens: &[Symbol],
         start: usize,
         at: usize,
-    ) -> Result<(ExprTree, usize), Stop>
+    ) -> Result<(Boxed<ExprTree>, usize), Stop>
         requires { Nests self.now.bounds (F.pre self.now.nested) (F.post self.now.nested) }
         ensures { Gives result (over_nested spec.cast tokens.now self.now.bounds start (text_of tokens.now) at) }
     {
@@ -32,9 +34,9 @@ impl<F: Fn(Global, &[Symbol], Bounds, usize, Part) -> Result<(ExprTree, usize), 
         let tree = ExprTree::Cast {
             at: place(tokens, start),
             to,
-            operand: Boxed::new(self.alloc, operand)?,
+            operand,
         };
-        Ok((tree, at))
+        self.node(tree, at)
     }
 
     /// `~` or `!` and its operand [JLS 15.15.5, 15.15.6].
@@ -44,7 +46,7 @@ impl<F: Fn(Global, &[Symbol], Bounds, usize, Part) -> Result<(ExprTree, usize), 
         tokens: &[Symbol],
         start: usize,
         at: usize,
-    ) -> Result<(ExprTree, usize), Stop>
+    ) -> Result<(Boxed<ExprTree>, usize), Stop>
         requires { Nests self.now.bounds (F.pre self.now.nested) (F.post self.now.nested) }
         ensures { Gives result (over_nested spec.negation tokens.now self.now.bounds start (text_of tokens.now) at) }
     {
@@ -53,14 +55,18 @@ impl<F: Fn(Global, &[Symbol], Bounds, usize, Part) -> Result<(ExprTree, usize), 
         let tree = ExprTree::Unary {
             at: place(tokens, start),
             op: negation_op(op),
-            operand: Boxed::new(self.alloc, operand)?,
+            operand,
         };
-        Ok((tree, at))
+        self.node(tree, at)
     }
 
     /// A unary expression that does not begin with `+`, `-`, `++` or `--` [JLS 15.15].
     #[tactic(auto, unfolding(crate::specs::Reading::plain))]
-    pub(crate) fn plain(&self, tokens: &[Symbol], start: usize) -> Result<(ExprTree, usize), Stop>
+    pub(crate) fn plain(
+        &self,
+        tokens: &[Symbol],
+        start: usize,
+    ) -> Result<(Boxed<ExprTree>, usize), Stop>
         requires { Nests self.now.bounds (F.pre self.now.nested) (F.post self.now.nested) }
         ensures { Gives result (over_nested spec.plain tokens.now self.now.bounds (text_of tokens.now) start) }
     {
@@ -80,7 +86,7 @@ impl<F: Fn(Global, &[Symbol], Bounds, usize, Part) -> Result<(ExprTree, usize), 
         tokens: &[Symbol],
         start: usize,
         at: usize,
-    ) -> Result<(ExprTree, usize), Stop>
+    ) -> Result<(Boxed<ExprTree>, usize), Stop>
         requires { Nests self.now.bounds (F.pre self.now.nested) (F.post self.now.nested) }
         ensures { Gives result (over_nested spec.least tokens.now self.now.bounds start (text_of tokens.now) at) }
     {
@@ -92,13 +98,14 @@ impl<F: Fn(Global, &[Symbol], Bounds, usize, Part) -> Result<(ExprTree, usize), 
             kind: literal_kind(found),
             text,
         };
+        let (operand, at) = self.node(operand, at)?;
         let (operand, at) = self.limited(tokens, operand, at)?;
         let tree = ExprTree::Unary {
             at: place(tokens, start),
             op: UnaryOp::Minus,
-            operand: Boxed::new(self.alloc, operand)?,
+            operand,
         };
-        Ok((tree, at))
+        self.node(tree, at)
     }
 
     /// What a minus stands before [JLS 15.15.4].
@@ -108,7 +115,7 @@ impl<F: Fn(Global, &[Symbol], Bounds, usize, Part) -> Result<(ExprTree, usize), 
         tokens: &[Symbol],
         start: usize,
         at: usize,
-    ) -> Result<(ExprTree, usize), Stop>
+    ) -> Result<(Boxed<ExprTree>, usize), Stop>
         requires { Nests self.now.bounds (F.pre self.now.nested) (F.post self.now.nested) }
         ensures { Gives result (over_nested spec.negative tokens.now self.now.bounds start (text_of tokens.now) at) }
     {
@@ -119,9 +126,9 @@ impl<F: Fn(Global, &[Symbol], Bounds, usize, Part) -> Result<(ExprTree, usize), 
         let tree = ExprTree::Unary {
             at: place(tokens, start),
             op: UnaryOp::Minus,
-            operand: Boxed::new(self.alloc, operand)?,
+            operand,
         };
-        Ok((tree, at))
+        self.node(tree, at)
     }
 
     /// A plus and its operand [JLS 15.15.3].
@@ -131,7 +138,7 @@ impl<F: Fn(Global, &[Symbol], Bounds, usize, Part) -> Result<(ExprTree, usize), 
         tokens: &[Symbol],
         start: usize,
         at: usize,
-    ) -> Result<(ExprTree, usize), Stop>
+    ) -> Result<(Boxed<ExprTree>, usize), Stop>
         requires { Nests self.now.bounds (F.pre self.now.nested) (F.post self.now.nested) }
         ensures { Gives result (over_nested spec.positive tokens.now self.now.bounds start (text_of tokens.now) at) }
     {
@@ -140,9 +147,9 @@ impl<F: Fn(Global, &[Symbol], Bounds, usize, Part) -> Result<(ExprTree, usize), 
         let tree = ExprTree::Unary {
             at: place(tokens, start),
             op: UnaryOp::Plus,
-            operand: Boxed::new(self.alloc, operand)?,
+            operand,
         };
-        Ok((tree, at))
+        self.node(tree, at)
     }
 
     /// `++` or `--` and its operand [JLS 15.15.1, 15.15.2].
@@ -152,7 +159,7 @@ impl<F: Fn(Global, &[Symbol], Bounds, usize, Part) -> Result<(ExprTree, usize), 
         tokens: &[Symbol],
         start: usize,
         at: usize,
-    ) -> Result<(ExprTree, usize), Stop>
+    ) -> Result<(Boxed<ExprTree>, usize), Stop>
         requires { Nests self.now.bounds (F.pre self.now.nested) (F.post self.now.nested) }
         ensures { Gives result (over_nested spec.prefixed tokens.now self.now.bounds start (text_of tokens.now) at) }
     {
@@ -161,14 +168,18 @@ impl<F: Fn(Global, &[Symbol], Bounds, usize, Part) -> Result<(ExprTree, usize), 
         let tree = ExprTree::Prefix {
             at: place(tokens, start),
             op: step_op(op),
-            operand: Boxed::new(self.alloc, operand)?,
+            operand,
         };
-        Ok((tree, at))
+        self.node(tree, at)
     }
 
     /// A unary expression [JLS 15.15].
     #[tactic(auto, unfolding(crate::specs::Reading::unary))]
-    pub(crate) fn unary(&self, tokens: &[Symbol], start: usize) -> Result<(ExprTree, usize), Stop>
+    pub(crate) fn unary(
+        &self,
+        tokens: &[Symbol],
+        start: usize,
+    ) -> Result<(Boxed<ExprTree>, usize), Stop>
         requires { Nests self.now.bounds (F.pre self.now.nested) (F.post self.now.nested) }
         ensures { Gives result (over_nested spec.unary tokens.now self.now.bounds (text_of tokens.now) start) }
     {

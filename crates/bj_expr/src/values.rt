@@ -9,10 +9,12 @@ use crate::reader::Reader;
 use crate::{Bounds, Part};
 use bj_grammar::{Stop, Symbol, Terminal, out_of_turns, sees, word};
 use bj_tree::{ExprTree, ExprTrees};
-use sqlite_items::Items;
+use sqlite_items::{Boxed, Items};
 use std::alloc::Global;
 
-impl<F: Fn(Global, &[Symbol], Bounds, usize, Part) -> Result<(ExprTree, usize), Stop>> Reader<F> {
+impl<
+    F: Fn(Global, &[Symbol], Bounds, usize, Part) -> Result<(Boxed<ExprTree>, usize), Stop>,
+> Reader<F> {
     /// The values behind some, up to the closing brace. A comma may stand before it.
     pub(crate) fn more_values(
         &self,
@@ -32,7 +34,7 @@ impl<F: Fn(Global, &[Symbol], Bounds, usize, Part) -> Result<(ExprTree, usize), 
                 return Ok((found, at));
             }
             let (value, next) = self.nest(tokens, at, Part::Initializer)?;
-            found.push(value)?;
+            found.push(value.into_inner())?;
             at = next;
         }
         if sees(tokens, at, Terminal::Comma) {
@@ -52,7 +54,7 @@ impl<F: Fn(Global, &[Symbol], Bounds, usize, Part) -> Result<(ExprTree, usize), 
     {
         let (first, at) = self.nest(tokens, at, Part::Initializer)?;
         let mut found = Items::new(self.alloc);
-        found.push(first)?;
+        found.push(first.into_inner())?;
         self.more_values(tokens, found, at)
     }
 

@@ -22,10 +22,3 @@ pub use halt::Halt;
 pub use laws::lines_have_one_tree;
 pub use line::line_of;
 pub use outcome::Outcome;
-
-#[cfg(test)]
-mod class_tests;
-#[cfg(test)]
-mod deep_tests;
-#[cfg(test)]
-mod tests;

@@ -15,13 +15,8 @@ use bj_grammar::{Stop, Symbol};
 use bj_lex::Tokens;
 use bj_stmt::statements_at;
 use bj_tree::{ExprTree, LineTree, StmtTrees};
+use sqlite_items::Boxed;
 use std::alloc::Global;
-
-/// Lets a tree go. Its drop stands here alone, so that no caller's proof goes through it.
-fn let_expression_go(_tree: ExprTree) {}
-
-/// Lets trees go, like `let_expression_go`.
-fn let_statements_go(_trees: StmtTrees) {}
 
 /// How much reading a line may take: as many steps in a loop as there are tokens, and the end.
 fn line_bounds(tokens: &[Symbol]) -> Bounds
@@ -38,13 +33,15 @@ fn line_bounds(tokens: &[Symbol]) -> Bounds
 /// # Errors
 ///
 /// `NoMemory` where there is no room for the tree.
-fn expression_outcome(alloc: Global, tokens: &[Symbol]) -> Result<Outcome<ExprTree>, NoMemory>
+fn expression_outcome(
+    alloc: Global,
+    tokens: &[Symbol],
+) -> Result<Outcome<Boxed<ExprTree>>, NoMemory>
     ensures { IfOk result (λ x. spec.IsExpressionOutcome tokens.now x) }
 {
     match part_at(alloc, tokens, line_bounds(tokens), 0, Part::Expression) {
         Ok((tree, at)) => {
             if at < tokens.len() {
-                let_expression_go(tree);
                 return Ok(Outcome::Stuck(at));
             }
             Ok(Outcome::Whole(tree))
@@ -61,7 +58,6 @@ fn statements_read(tokens: &[Symbol], trees: StmtTrees, at: usize) -> Outcome<St
     ensures { spec.IsStatementsOutcome tokens.now result }
 {
     if at < tokens.len() {
-        let_statements_go(trees);
         return Outcome::Stuck(at);
     }
     Outcome::Whole(trees)

@@ -6,7 +6,7 @@ ghost use Rattle.bj_print.specs.Exprs as spec;
 ghost use Rattle.bj_print.specs.Stmts.{stmt_parts};
 
 use crate::blocks::{write_body, write_boxed_stmt, write_braced};
-use crate::expr::{write_arguments, write_expr};
+use crate::expr::{write_arguments, write_boxed};
 use crate::for_loop::write_for;
 use crate::guards::write_try;
 use crate::heads::{write_class_head, write_head};
@@ -87,7 +87,7 @@ fn write_plain(out: &mut Writer, tree: &StmtTree) -> Result<(), NoMemory>
             write_variables(out, variables)?;
         }
         StmtTree::Expression { value, .. } => {
-            write_expr(out, value)?;
+            write_boxed(out, value)?;
         }
         StmtTree::ConstructorCall { is_super, args, .. } => {
             write_constructor_word(out, *is_super)?;
@@ -127,7 +127,7 @@ fn write_choice(out: &mut Writer, tree: &StmtTree) -> Result<(), NoMemory>
         }
         StmtTree::Case { value, .. } => {
             keyword_before(out, b"case")?;
-            write_expr(out, value)?;
+            write_boxed(out, value)?;
             sign(out, b":")?;
         }
         StmtTree::Default { .. } => {
@@ -194,7 +194,7 @@ fn write_jump(out: &mut Writer, tree: &StmtTree) -> Result<(), NoMemory>
         }
         StmtTree::Throw { value, .. } => {
             keyword_before(out, b"throw")?;
-            write_expr(out, value)?;
+            write_boxed(out, value)?;
         }
         _ => unreachable!(),
     }

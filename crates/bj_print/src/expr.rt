@@ -247,8 +247,12 @@ fn write_loosest(out: &mut Writer, tree: &ExprTree) -> Result<(), NoMemory>
 }
 
 /// Writes a boxed expression.
+///
+/// # Errors
+///
+/// `NoMemory` where there is no room for it.
 #[cycle(exprs)]
-fn write_boxed(out: &mut Writer, tree: &Boxed<ExprTree>) -> Result<(), NoMemory>
+pub(crate) fn write_boxed(out: &mut Writer, tree: &Boxed<ExprTree>) -> Result<(), NoMemory>
     ensures { OnOk result (Wrote out.old out.new (expr_pieces tree.now)) }
 {
     write_expr(out, tree.get())

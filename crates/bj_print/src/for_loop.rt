@@ -16,6 +16,7 @@ use crate::tokens::sign;
 use bj_core::NoMemory;
 use bj_tree::{ExprTree, ExprTrees, StmtTree, StmtTrees};
 use bj_writer::Writer;
+use sqlite_items::Boxed;
 
 /// Writes a `for` [JLS 14.14].
 ///
@@ -83,7 +84,7 @@ fn write_update(out: &mut Writer, update: &ExprTrees) -> Result<(), NoMemory>
 fn write_for_parts(
     out: &mut Writer,
     init: &StmtTrees,
-    test: &Option<ExprTree>,
+    test: &Option<Boxed<ExprTree>>,
     update: &ExprTrees,
 ) -> Result<(), NoMemory>
     ensures { OnOk result (Wrote out.old out.new (for_pieces init.now test.now update.now)) }
@@ -101,7 +102,7 @@ fn write_for_parts(
 fn write_for_head(
     out: &mut Writer,
     init: &StmtTrees,
-    test: &Option<ExprTree>,
+    test: &Option<Boxed<ExprTree>>,
     update: &ExprTrees,
 ) -> Result<(), NoMemory>
     ensures { OnOk result (Wrote out.old out.new (headed (codes "for") (for_pieces init.now test.now update.now))) }

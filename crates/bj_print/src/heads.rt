@@ -5,13 +5,14 @@ ghost use Rattle.bj_print.specs.Exprs.{expr_pieces, type_pieces, separated};
 ghost use Rattle.bj_print.specs.Stmts.{headed};
 ghost use Rattle.bj_print.specs.Parts.{bar, before_next, caught_pieces, each_pieces};
 
-use crate::expr::write_expr;
+use crate::expr::write_boxed;
 use crate::optional::write_final;
 use crate::tokens::{keyword, keyword_before, sign, spaced_sign, word};
 use crate::types::write_type;
 use bj_core::NoMemory;
 use bj_tree::{ExprTree, NamedPlace, TypeTree, TypeTrees};
 use bj_writer::Writer;
+use sqlite_items::Boxed;
 
 /// Writes a keyword and the parenthesis behind it.
 ///
@@ -31,11 +32,15 @@ pub(crate) fn open_head(out: &mut Writer, name: &[u8]) -> Result<(), NoMemory>
 /// # Errors
 ///
 /// As `open_head`.
-pub(crate) fn write_head(out: &mut Writer, name: &[u8], tree: &ExprTree) -> Result<(), NoMemory>
+pub(crate) fn write_head(
+    out: &mut Writer,
+    name: &[u8],
+    tree: &Boxed<ExprTree>,
+) -> Result<(), NoMemory>
     ensures { OnOk result (Wrote out.old out.new (headed name.now (expr_pieces tree.now))) }
 {
     open_head(out, name)?;
-    write_expr(out, tree)?;
+    write_boxed(out, tree)?;
     sign(out, b")")?;
     Ok(())
 }
@@ -62,7 +67,7 @@ fn write_each(
     is_final: bool,
     of: &TypeTree,
     name: &NamedPlace,
-    over: &ExprTree,
+    over: &Boxed<ExprTree>,
 ) -> Result<(), NoMemory>
     ensures { OnOk result (Wrote out.old out.new (each_pieces is_final of.now name.now over.now)) }
 {
@@ -71,7 +76,7 @@ fn write_each(
     out.space()?;
     word(out, &name.name)?;
     spaced_sign(out, b":")?;
-    write_expr(out, over)?;
+    write_boxed(out, over)?;
     Ok(())
 }
 
@@ -85,7 +90,7 @@ pub(crate) fn write_each_head(
     is_final: bool,
     of: &TypeTree,
     name: &NamedPlace,
-    over: &ExprTree,
+    over: &Boxed<ExprTree>,
 ) -> Result<(), NoMemory>
     ensures { OnOk result (Wrote out.old out.new (headed (codes "for") (each_pieces is_final of.now name.now over.now))) }
 {

@@ -4,8 +4,6 @@
 mod bare;
 mod blocks;
 mod body;
-#[cfg(test)]
-mod built_tests;
 mod class;
 mod expr;
 mod for_loop;
@@ -22,8 +20,6 @@ mod optional;
 mod parameters;
 mod print;
 mod stmt;
-#[cfg(test)]
-mod tests;
 mod tokens;
 mod types;
 mod variables;

@@ -2,11 +2,12 @@ ghost use Rattle.std.specs.Prelude.{OnOk};
 ghost use Rattle.bj_writer.specs.Pieces.{Wrote};
 ghost use Rattle.bj_print.specs.Stmts as spec;
 
-use crate::expr::write_expr;
+use crate::expr::write_boxed;
 use crate::tokens::{keyword_before, spaced_sign, word};
 use bj_core::NoMemory;
 use bj_tree::{ExprTree, NamedPlace};
 use bj_writer::Writer;
+use sqlite_items::Boxed;
 
 /// Writes `final`, where it stands.
 ///
@@ -27,12 +28,15 @@ pub(crate) fn write_final(out: &mut Writer, is_final: bool) -> Result<(), NoMemo
 /// # Errors
 ///
 /// As `write_final`.
-pub(crate) fn write_optional_expr(out: &mut Writer, tree: &Option<ExprTree>) -> Result<(), NoMemory>
+pub(crate) fn write_optional_expr(
+    out: &mut Writer,
+    tree: &Option<Boxed<ExprTree>>,
+) -> Result<(), NoMemory>
     ensures { OnOk result (Wrote out.old out.new (spec.maybe_expr tree.now)) }
 {
     if let Some(tree) = tree {
         out.space()?;
-        write_expr(out, tree)?;
+        write_boxed(out, tree)?;
     }
     Ok(())
 }
@@ -57,12 +61,15 @@ pub(crate) fn write_label(out: &mut Writer, label: &Option<NamedPlace>) -> Resul
 /// # Errors
 ///
 /// As `write_final`.
-pub(crate) fn write_initializer(out: &mut Writer, init: &Option<ExprTree>) -> Result<(), NoMemory>
+pub(crate) fn write_initializer(
+    out: &mut Writer,
+    init: &Option<Boxed<ExprTree>>,
+) -> Result<(), NoMemory>
     ensures { OnOk result (Wrote out.old out.new (spec.maybe_init init.now)) }
 {
     if let Some(init) = init {
         spaced_sign(out, b"=")?;
-        write_expr(out, init)?;
+        write_boxed(out, init)?;
     }
     Ok(())
 }

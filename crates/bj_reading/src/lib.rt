@@ -8,6 +8,3 @@ mod word;
 
 pub use reply::reading_reply;
 pub use text::JavaText;
-
-#[cfg(test)]
-mod tests;

@@ -53,8 +53,8 @@ fn is_of_form(form: JavaText, tree: &LineTree) -> bool
 {
     match (form, tree) {
         (JavaText::Line, _) => true,
-        (JavaText::Call, LineTree::Expr(tree)) => is_call(tree),
-        (JavaText::Creation, LineTree::Expr(tree)) => is_creation(tree),
+        (JavaText::Call, LineTree::Expr(tree)) => is_call(tree.get()),
+        (JavaText::Creation, LineTree::Expr(tree)) => is_creation(tree.get()),
         (_, LineTree::Stmts(_)) => false,
     }
 }

@@ -7,8 +7,6 @@ mod events;
 mod outcomes;
 mod plain;
 mod terms;
-#[cfg(test)]
-mod tests;
 mod texts;
 mod viewing;
 

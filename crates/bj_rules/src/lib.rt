@@ -12,8 +12,6 @@ mod modifier;
 mod place;
 mod size;
 mod start;
-#[cfg(test)]
-mod tests;
 mod words;
 
 pub use annotation::annotation_misfit;

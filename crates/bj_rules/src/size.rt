@@ -40,12 +40,12 @@ pub fn body_misfit(body: &Option<Boxed<StmtTree>>) -> Option<Misfit>
     }
 }
 
-fn value_misfit(value: &Option<ExprTree>) -> Option<Misfit>
+fn value_misfit(value: &Option<Boxed<ExprTree>>) -> Option<Misfit>
     ensures { result ≡ spec.value_misfit value.now }
 {
     match value {
         None => None,
-        Some(value) => size_misfit(expr_nodes(value), expr_start(value)),
+        Some(value) => size_misfit(expr_nodes(value.get()), expr_start(value.get())),
     }
 }
 

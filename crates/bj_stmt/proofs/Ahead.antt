@@ -1,10 +1,8 @@
 -- What the tests on the next tokens look at is looked at by the readers behind them, too.
-use Rattle.std.proofs.Common.{◌≡◌, ℕ, zero, suc, ◌+◌, ◌<◌, ◌≤◌, ◌⊎◌, inl, inr, Bool, true, false, cond, refl, sym, ap, ◌∙◌, subst, arith, le_refl, List, [], ◌∷◌, Option, None}
+use Rattle.std.proofs.Common.{◌≡◌, ℕ, zero, suc, ◌<◌, ◌≤◌, Bool, true, false, cond, refl, sym, ap, ◌∙◌, subst, arith, le_refl, List, [], ◌∷◌}
 use Rattle.std.specs.Prelude.{◌||◌, ◌&&◌}
-use Rattle.std.proofs.lemmas.Bool.{cases_Bool, both_ways}
 use Rattle.bj_core.specs.declared.types.Span.{Span}
 use Rattle.bj_lex.specs.declared.token.Token.{Token}
-use Rattle.bj_tree.specs.declared.types.TypeTree.{TypeTree}
 use Rattle.bj_tree.specs.declared.expr.ExprTree.{ExprTree}
 use Rattle.bj_tree.specs.declared.expr.ExprTree.TheVariants as tree
 use Rattle.bj_tree.specs.declared.stmt.StmtTree.{StmtTree}
@@ -12,9 +10,9 @@ use Rattle.bj_tree.specs.declared.stmt.StmtTree.TheVariants as stmt
 use Rattle.bj_grammar.specs.declared.terminal.Terminal.{Terminal}
 use Rattle.bj_grammar.specs.declared.terminal.Terminal.TheVariants as t
 use Rattle.bj_grammar.specs.Terminal.{terminal, same_terminal, among}
-use Rattle.bj_grammar.specs.Reader.{Text, Answer, Found, Wrong, Over, Parser, and_then, ◌>>=◌, pure, over, here, operator, word, sign}
+use Rattle.bj_grammar.specs.Reader.{Text, Answer, Found, Wrong, Over, Parser, and_then, word}
 use Rattle.bj_grammar.proofs.Terminals.{is_token}
-use Rattle.bj_grammar.proofs.Laws.{Rel, Shape, Completes, Laws, Same, Word, reached_stop, stop, pure_laws, word_shape, kind_is, is_kind, reaches}
+use Rattle.bj_grammar.proofs.Laws.{Rel, Shape, Laws, Same, Word, reached_stop, stop, pure_laws, word_shape, kind_is, reaches}
 use Rattle.bj_expr.specs.declared.part.Part.TheVariants as part
 use Rattle.bj_expr.specs.Grammar as ge
 use Rattle.bj_expr.specs.Grammar.{primitives, TypeAt, Dims, Expression, Unary}
@@ -25,7 +23,7 @@ use Rattle.bj_stmt.specs.Reading as r
 use Rattle.bj_stmt.specs.Reading.{declares, is_labelled, is_class_lock, is_constructor_call}
 use Rattle.bj_stmt.proofs.Expressions.{Given, AfterType, Never}
 use Rattle.bj_stmt.proofs.Leftmost.{is_not}
-use Rattle.bj_stmt.proofs.Small.{list_ends, sign_facts, in_list, in_enders, type_no_final}
+use Rattle.bj_stmt.proofs.Small.{list_ends, sign_facts, in_list, in_enders}
 
 -- ---- texts that go on
 

@@ -1,6 +1,6 @@
 -- The first tokens of statements, what may follow one, and which end with an `if` that has no `else`.
-use Rattle.std.proofs.Common.{◌≡◌, ℕ, zero, suc, ◌<◌, ◌≤◌, ◌⊎◌, inl, inr, Bool, true, false, refl, sym, ap, ◌∙◌, subst, arith, List, [], ◌∷◌, Option}
-use Rattle.std.specs.Prelude.{◌||◌, ◌&&◌}
+use Rattle.std.proofs.Common.{◌≡◌, ℕ, ◌⊎◌, inl, inr, Bool, true, false, refl, sym, ap, ◌∙◌, List, [], ◌∷◌, Option}
+use Rattle.std.specs.Prelude.{◌||◌}
 use Rattle.bj_core.specs.declared.types.Span.{Span}
 use Rattle.bj_tree.specs.declared.types.TypeTree.{TypeTree}
 use Rattle.bj_tree.specs.declared.types.NamedPlace.{NamedPlace}
@@ -14,13 +14,10 @@ use Rattle.bj_grammar.specs.declared.terminal.Terminal.{Terminal}
 use Rattle.bj_grammar.specs.declared.terminal.Terminal.TheVariants as t
 use Rattle.bj_grammar.specs.Terminal.{terminal, same_terminal, among}
 use Rattle.bj_grammar.specs.Reader.{Text}
-use Rattle.bj_expr.specs.declared.part.Part.TheVariants as part
-use Rattle.bj_expr.specs.Grammar as ge
-use Rattle.bj_expr.specs.Grammar.{primitives, type_words, TypeAt}
-use Rattle.bj_stmt.specs.Grammar as g
-use Rattle.bj_stmt.specs.Grammar.{jump, jumps, dangles, dangles_form, MaybeFinal, Declaration, StatementExpression, Evaluation, Statement, Block, BlockStatement, Member, Label, Catch}
-use Rattle.bj_stmt.specs.Reading.{branch_words, loop_words, leave_words, guard_words, inside, on_line, declares}
-use Rattle.bj_stmt.proofs.Expressions.{Given, expression_words}
+use Rattle.bj_expr.specs.Grammar.{primitives}
+use Rattle.bj_stmt.specs.Grammar.{jump, dangles, dangles_form}
+use Rattle.bj_stmt.specs.Reading.{branch_words, loop_words, leave_words, guard_words, declares}
+use Rattle.bj_stmt.proofs.Expressions.{expression_words}
 use Rattle.bj_stmt.proofs.Leftmost.{each, or_cases, or_none, and_first}
 
 pub or_right : (a b : Bool) → b ≡ true → (a || b) ≡ true

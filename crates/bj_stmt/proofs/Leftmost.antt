@@ -1,15 +1,13 @@
 -- What stands behind the first token of an expression: no statement of another form begins like one.
-use Rattle.std.proofs.Common.{◌≡◌, ℕ, zero, suc, ◌<◌, ◌≤◌, ◌⊎◌, inl, inr, Bool, true, false, cond, refl, sym, ap, ◌∙◌, subst, arith, List, [], ◌∷◌}
+use Rattle.std.proofs.Common.{◌≡◌, ℕ, zero, suc, ◌⊎◌, inl, inr, Bool, true, false, refl, sym, ap, ◌∙◌, subst, List, [], ◌∷◌}
 use Rattle.std.specs.Prelude.{◌||◌, ◌&&◌}
-use Rattle.std.proofs.lemmas.Bool.{cases_Bool, both_ways}
 use Rattle.bj_core.specs.declared.types.Span.{Span}
-use Rattle.bj_tree.specs.declared.types.TypeTree.{TypeTree}
 use Rattle.bj_tree.specs.declared.expr.ExprTree.{ExprTree}
 use Rattle.bj_grammar.specs.declared.terminal.Terminal.{Terminal}
 use Rattle.bj_grammar.specs.declared.terminal.Terminal.TheVariants as t
 use Rattle.bj_grammar.specs.Terminal.{terminal, same_terminal, among}
 use Rattle.bj_grammar.specs.Reader.{Text}
-use Rattle.bj_grammar.proofs.Laws.{kind_is, is_kind}
+use Rattle.bj_grammar.proofs.Laws.{kind_is}
 use Rattle.bj_expr.specs.declared.part.Part.TheVariants as part
 use Rattle.bj_expr.specs.Grammar as g
 use Rattle.bj_expr.specs.Grammar.{ops, assigns, negations, step_ops, literal_words, primitives, TypeAt, Expression, Conditional, Level, Unary, Plain, Postfix, Selected, Primary}

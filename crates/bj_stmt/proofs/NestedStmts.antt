@@ -1,26 +1,16 @@
 -- The laws of what is nested, at every depth, and of statements up to the end of a text.
-use Rattle.std.proofs.Common.{◌≡◌, ◌≢◌, ℕ, zero, suc, ◌+◌, ◌<◌, ◌≤◌, ◌⊎◌, inl, inr, Bool, true, false, cond, refl, sym, ap, ◌∙◌, subst, arith, le_refl, List, [], ◌∷◌, ◌++◌, Option, Some, None}
-use Rattle.std.specs.Prelude.{◌&&◌}
-use Rattle.std.proofs.lemmas.Bool.{both_ways}
+use Rattle.std.proofs.Common.{◌≡◌, ◌≢◌, ℕ, zero, suc, ◌≤◌, inl, true, false, refl, sym, ap, ◌∙◌, subst, arith, List, [], ◌∷◌, ◌++◌, Option}
 use Rattle.bj_core.specs.declared.types.Span.{Span}
-use Rattle.bj_lex.specs.declared.token.Token.{Token}
-use Rattle.bj_tree.specs.declared.types.TypeTree.{TypeTree}
 use Rattle.bj_tree.specs.declared.types.NamedPlace.{NamedPlace}
-use Rattle.bj_tree.specs.declared.expr.ExprTree.{ExprTree}
-use Rattle.bj_tree.specs.declared.expr.ExprTree.TheVariants as tree
-use Rattle.bj_tree.specs.declared.stmt.VariableTree.{VariableTree}
 use Rattle.bj_tree.specs.declared.stmt.StmtTree.{StmtTree}
 use Rattle.bj_tree.specs.declared.stmt.StmtTree.TheVariants as stmt
 use Rattle.bj_grammar.specs.declared.terminal.Terminal.{Terminal}
 use Rattle.bj_grammar.specs.declared.terminal.Terminal.TheVariants as t
 use Rattle.bj_grammar.specs.Terminal.{terminal, same_terminal, among}
-use Rattle.bj_grammar.specs.Reader.{Text, Answer, Found, Wrong, Over, Parser, and_then, ◌>>=◌, pure, over, here, operator, word, sign, ahead, choose, loop}
-use Rattle.bj_grammar.proofs.Terminals.{is_token}
-use Rattle.bj_grammar.proofs.Laws.{Rel, Shape, Outcome, Laws, Then, then_shape, Same, Word, Operator, Either, Steps, done, more, stop, same_laws, pure_laws, over_laws, steps_end, steps_fold, is_kind, kind_is, and_then_found, ahead_laws, loop_laws, reaches, seq, alt, tok, op, start, renamed, taller, rep, rep_by}
-use Rattle.bj_expr.specs.declared.part.Part.TheVariants as part
+use Rattle.bj_grammar.specs.Reader.{Text}
+use Rattle.bj_grammar.proofs.Laws.{Rel, Shape, Laws, Then, Same, Steps, done, pure_laws, over_laws, steps_end, steps_fold, seq, renamed, rep_by}
 use Rattle.bj_expr.specs.Grammar as ge
 use Rattle.bj_expr.specs.Grammar.{primitives, type_words, TypeAt, Dims, Expression}
-use Rattle.bj_expr.specs.Reading.{is, type_at}
 use Rattle.bj_stmt.specs.declared.part.StmtPart.{StmtPart}
 use Rattle.bj_stmt.specs.declared.part.StmtPart.TheVariants as p
 use Rattle.bj_stmt.specs.Grammar as g
@@ -28,21 +18,20 @@ use Rattle.bj_stmt.specs.Grammar.{is_statement, jump, jumps, dangles, MaybeFinal
 use Rattle.bj_stmt.specs.Reading as r
 use Rattle.bj_stmt.specs.Reading.{declares, is_labelled, is_class_lock, is_constructor_call, constructors, inside, is_empty, branch_words, loop_words, leave_words, guard_words}
 use Rattle.bj_stmt.specs.Nodes.{stmt_nodes_at, StmtHasNode, SomeStmtHasNode}
-use Rattle.bj_stmt.proofs.Expressions.{Given, expression_words, enders, AfterType, Never}
+use Rattle.bj_stmt.proofs.Expressions.{Given}
 use Rattle.bj_stmt.proofs.StmtNodeForms as forms
 use Rattle.bj_stmt.proofs.StmtTall as tall
-use Rattle.bj_stmt.proofs.StmtShape.{block_forward, block_statement_forward, member_forward, label_forward, catch_forward, evaluation_forward}
-use Rattle.bj_stmt.proofs.Leftmost.{each, or_cases, is_not, none_of, or_none, or_split, and_first, and_second, Second, Next, followed, expression_leftmost, paren_second, semicolon_second, comma_second}
-use Rattle.bj_stmt.proofs.Begins as Begins
-use Rattle.bj_stmt.proofs.Begins.{no_follow, member_words, First, member_first}
-use Rattle.bj_stmt.proofs.Starts.{member_begins, block_statement_begins, statement_begins, evaluation_begins, block_begins, block_member_word, statement_block_word, is_inside, is_on_line, dims_two, type_declares, final_declares, evaluation_declares, evaluation_next}
-use Rattle.bj_stmt.proofs.Ahead.{stop_then, stop_word, declares_depends, labelled_depends, class_depends, constructor_depends, type_past, type_past_bracket, evaluation_past, evaluation_past_bracket, value_past, value_past_dot, goes_on, call_evaluation, assigned_evaluation}
-use Rattle.bj_stmt.proofs.Small.{same_after, pick_laws, list_facts, CommaVariable, VariablesBehind, variables_behind_laws, variables_laws, variables_word, Cased, Defaulted, to_named, from_named, declaration_laws, evaluation_laws, constructor_call_laws, label_laws, LabelRel, case_laws, default_laws, to_label, from_label, Any, Before, InList, list_ends, in_list, in_enders, sign_facts, final_laws, type_no_final, NameAt, name_laws, maybe_name_laws, ExprRel, value_laws, value_ends, maybe_value_laws, all_values_laws}
+use Rattle.bj_stmt.proofs.StmtShape.{block_forward, block_statement_forward, member_forward, catch_forward}
+use Rattle.bj_stmt.proofs.Leftmost.{none_of}
+use Rattle.bj_stmt.proofs.Begins.{no_follow, First, member_first}
+use Rattle.bj_stmt.proofs.Starts.{block_statement_begins, block_member_word, is_on_line}
+use Rattle.bj_stmt.proofs.Ahead.{goes_on}
+use Rattle.bj_stmt.proofs.Small.{same_after, evaluation_laws, constructor_call_laws, label_laws, Any, Before}
 use Rattle.bj_stmt.specs.Reading.{nested, statements_within, on_line}
 use Rattle.bj_stmt.specs.Grammar.{SomeStatements}
-use Rattle.bj_stmt.proofs.Rules.{StandsAs, AfterStatement, AfterPart, InBlock, in_block, Greedy, over_greedy}
+use Rattle.bj_stmt.proofs.Rules.{StandsAs, AfterPart, InBlock, in_block, Greedy, over_greedy}
 use Rattle.bj_stmt.proofs.StmtLaws.{rule_laws, statement_greedy}
-use Rattle.bj_stmt.proofs.StmtShape.{statement_forward, statement_frame, block_frame, block_statement_frame, member_frame, label_frame, catch_frame, evaluation_frame, constructor_call_forward, constructor_call_frame, constructor_body_forward, constructor_body_frame}
+use Rattle.bj_stmt.proofs.StmtShape.{statement_forward, statement_frame, block_frame, block_statement_frame, member_frame, catch_frame, constructor_body_forward, constructor_body_frame}
 use Rattle.bj_grammar.proofs.Laws.{Completes}
 use Rattle.bj_stmt.proofs.Ahead.{Row, Tokens}
 

@@ -1,5 +1,5 @@
 -- The laws of the rules of statements, given those of what is nested in them.
-use Rattle.std.proofs.Common.{◌≡◌, ◌≢◌, ℕ, zero, suc, ◌+◌, ◌<◌, ◌≤◌, ◌⊎◌, inl, inr, Bool, true, false, cond, refl, sym, ap, ◌∙◌, subst, arith, le_refl, List, [], ◌∷◌, ◌++◌, Option, Some, None}
+use Rattle.std.proofs.Common.{◌≡◌, ◌≢◌, ℕ, suc, ◌<◌, ◌≤◌, inl, inr, Bool, true, false, cond, refl, sym, ap, ◌∙◌, subst, arith, List, [], ◌∷◌, ◌++◌}
 use Rattle.std.specs.Prelude.{◌&&◌}
 use Rattle.std.proofs.lemmas.Bool.{both_ways}
 use Rattle.bj_core.specs.declared.types.Span.{Span}
@@ -12,12 +12,11 @@ use Rattle.bj_tree.specs.declared.stmt.StmtTree.TheVariants as stmt
 use Rattle.bj_grammar.specs.declared.terminal.Terminal.{Terminal}
 use Rattle.bj_grammar.specs.declared.terminal.Terminal.TheVariants as t
 use Rattle.bj_grammar.specs.Terminal.{terminal, same_terminal, among}
-use Rattle.bj_grammar.specs.Reader.{Text, Answer, Found, Wrong, Over, Parser, and_then, ◌>>=◌, pure, over, here, operator, word, sign, ahead, choose, loop}
+use Rattle.bj_grammar.specs.Reader.{Text, Answer, Found, Wrong, Over, Parser, and_then, ◌>>=◌, pure, over, operator, word, sign, ahead}
 use Rattle.bj_grammar.proofs.Terminals.{is_token}
-use Rattle.bj_grammar.proofs.Laws.{Rel, Shape, Outcome, Laws, Then, Same, Word, Operator, Either, Steps, done, reached, stop, halted, same_laws, pure_laws, over_laws, steps_end, steps_fold, is_kind, kind_is, and_then_found, ahead_laws, loop_laws, reaches, seq, alt, tok, op, start, renamed, taller, rep, rep_by}
-use Rattle.bj_expr.specs.declared.part.Part.TheVariants as part
+use Rattle.bj_grammar.proofs.Laws.{Rel, Outcome, Laws, Then, Same, Word, Operator, Either, Steps, done, reached, stop, halted, pure_laws, steps_end, steps_fold, is_kind, and_then_found, ahead_laws, seq, alt, tok, op, start, renamed, rep, rep_by}
 use Rattle.bj_expr.specs.Grammar.{TypeAt, Expression}
-use Rattle.bj_expr.specs.Reading.{is, type_at}
+use Rattle.bj_expr.specs.Reading.{is}
 use Rattle.bj_expr.specs.Nodes.{HasNode}
 use Rattle.bj_stmt.specs.declared.part.StmtPart.{StmtPart}
 use Rattle.bj_stmt.specs.declared.part.StmtPart.TheVariants as p
@@ -26,15 +25,15 @@ use Rattle.bj_stmt.specs.Grammar.{jump, jumps, dangles, MaybeFinal, MaybeExpress
 use Rattle.bj_stmt.specs.Reading as r
 use Rattle.bj_stmt.specs.Reading.{declares, is_labelled, is_class_lock, is_constructor_call, constructors, inside, is_empty, branch_words, loop_words, leave_words, guard_words}
 use Rattle.bj_stmt.specs.Nodes.{stmt_nodes_at, StmtHasNode, SomeStmtHasNode}
-use Rattle.bj_stmt.proofs.Expressions.{Given, expression_words, enders, AfterType, Never}
+use Rattle.bj_stmt.proofs.Expressions.{Given, Never}
 use Rattle.bj_stmt.proofs.StmtTall as tall
-use Rattle.bj_stmt.proofs.StmtShape.{block_forward, block_statement_forward, member_forward, label_forward, catch_forward, evaluation_forward}
-use Rattle.bj_stmt.proofs.Leftmost.{each, is_not, none_of, or_none, or_split, and_first, Second, Next, followed, expression_leftmost, paren_second, semicolon_second, comma_second}
+use Rattle.bj_stmt.proofs.StmtShape.{member_forward, catch_forward}
+use Rattle.bj_stmt.proofs.Leftmost.{each, is_not, none_of, or_split, followed, expression_leftmost, paren_second}
 use Rattle.bj_stmt.proofs.Begins as Begins
 use Rattle.bj_stmt.proofs.Begins.{no_follow, member_words, First, member_first}
-use Rattle.bj_stmt.proofs.Starts.{member_begins, block_statement_begins, statement_begins, evaluation_begins, block_begins, block_member_word, statement_block_word, is_inside, dims_two, type_declares, final_declares, evaluation_declares, evaluation_next}
-use Rattle.bj_stmt.proofs.Ahead.{stop_then, forth, stop_word, declares_depends, labelled_depends, class_depends, constructor_depends, type_past, type_past_bracket, evaluation_past, evaluation_past_bracket, value_past, value_past_dot, goes_on}
-use Rattle.bj_stmt.proofs.Small.{same_after, pick_laws, list_facts, VariablesBehind, variables_behind_laws, to_named, from_named, declaration_laws, evaluation_laws, constructor_call_laws, label_laws, LabelRel, case_laws, default_laws, to_label, from_label, Any, Before, InList, list_ends, in_list, in_enders, sign_facts, final_laws, type_no_final, NameAt, name_laws, maybe_name_laws, ExprRel, value_laws, value_ends, maybe_value_laws, all_values_laws}
+use Rattle.bj_stmt.proofs.Starts.{member_begins, is_inside}
+use Rattle.bj_stmt.proofs.Ahead.{stop_then, forth, stop_word, class_depends, value_past, value_past_dot}
+use Rattle.bj_stmt.proofs.Small.{same_after, pick_laws, Any, Before, list_ends, sign_facts, final_laws, type_no_final, NameAt, name_laws, maybe_name_laws, ExprRel, value_laws, value_ends, maybe_value_laws}
 
 -- ---- what each part is, and what may follow it
 

@@ -1,5 +1,5 @@
 -- The laws of the small parts of statements.
-use Rattle.std.proofs.Common.{◌≡◌, ℕ, zero, suc, ◌+◌, ◌<◌, ◌≤◌, ◌⊎◌, inl, inr, Bool, true, false, cond, refl, sym, ap, ◌∙◌, subst, arith, le_refl, List, [], ◌∷◌, ◌++◌, Option, Some, None, map}
+use Rattle.std.proofs.Common.{◌≡◌, ℕ, zero, suc, ◌<◌, inl, inr, Bool, true, false, cond, refl, sym, ap, ◌∙◌, subst, arith, le_refl, List, [], ◌∷◌, ◌++◌, Option, Some, None}
 use Rattle.std.specs.Prelude.{◌-◌, Contains}
 use Rattle.std.proofs.lemmas.Bool.{both_ways}
 use Rattle.std.proofs.lemmas.List.Elements.{Contains-append_left, Contains-append_right}
@@ -15,24 +15,23 @@ use Rattle.bj_tree.specs.declared.stmt.StmtTree.TheVariants as stmt
 use Rattle.bj_grammar.specs.declared.terminal.Terminal.{Terminal}
 use Rattle.bj_grammar.specs.declared.terminal.Terminal.TheVariants as t
 use Rattle.bj_grammar.specs.Terminal.{terminal, same_terminal, among}
-use Rattle.bj_grammar.specs.Reader.{Text, Answer, Found, Parser, ◌>>=◌, pure, over, unless_deep, here, operator, word, sign, choose, loop}
+use Rattle.bj_grammar.specs.Reader.{Text, Parser, ◌>>=◌, pure, unless_deep, loop}
 use Rattle.bj_grammar.proofs.Terminals.{is_token}
-use Rattle.bj_grammar.proofs.Laws.{Rel, Laws, Then, Same, Word, Either, Steps, done, same_laws, pure_laws, over_laws, steps_end, steps_fold, is_kind, kind_is, seq, alt, tok, op, Operator, start, renamed, taller, rep}
+use Rattle.bj_grammar.proofs.Laws.{Rel, Laws, Then, Same, Word, Either, Steps, done, pure_laws, over_laws, steps_end, steps_fold, is_kind, kind_is, seq, alt, tok, op, Operator, start, renamed, rep}
 use Rattle.bj_expr.specs.declared.part.Part.TheVariants as part
 use Rattle.bj_expr.specs.Grammar as ge
 use Rattle.bj_expr.specs.Grammar.{assigns, assign_op, type_words, Dims, TypeAt, Expression, Unary, Initializer}
-use Rattle.bj_expr.specs.Reading.{is, dims, type_at, limited}
+use Rattle.bj_expr.specs.Reading.{is, type_at, limited}
 use Rattle.bj_expr.specs.Nodes.{nodes_at, HasNode, first}
 use Rattle.bj_expr.proofs.NodeForms.{assign_below}
-use Rattle.bj_expr.specs.Within.{Stands}
 use Rattle.bj_stmt.specs.Grammar as g
 use Rattle.bj_stmt.specs.Grammar.{MaybeFinal, MaybeInit, MaybeExpression, MaybeName, Variable, Variables, Declaration, StatementExpression, Evaluation, ConstructorCall, Label, is_statement, Expressions, MaybeExpressions}
 use Rattle.bj_stmt.specs.Reading as r
 use Rattle.bj_stmt.specs.Nodes.{variable_nodes, StmtHasNode, SomeVariableHasNode}
-use Rattle.bj_stmt.proofs.Expressions.{Given, expression_words, beginners, enders, AfterType, Never}
+use Rattle.bj_stmt.proofs.Expressions.{Given, expression_words, enders, Never}
 use Rattle.bj_stmt.proofs.StmtTall as tall
 use Rattle.bj_stmt.proofs.StmtTall.{SomeExprHasNode, OptionHasNode, VariableHasNode}
-use Rattle.bj_stmt.proofs.Leftmost.{each, is_not, none_of}
+use Rattle.bj_stmt.proofs.Leftmost.{each, is_not}
 
 -- ---- general steps
 

@@ -1,7 +1,6 @@
 -- The first tokens of statements and their parts.
-use Rattle.std.proofs.Common.{◌≡◌, ℕ, zero, suc, ◌<◌, ◌≤◌, ◌⊎◌, inl, inr, Bool, true, false, refl, sym, ap, ◌∙◌, subst, arith, List, [], ◌∷◌, Option}
+use Rattle.std.proofs.Common.{◌≡◌, ℕ, suc, ◌⊎◌, inl, inr, Bool, true, false, refl, ap, ◌∙◌, subst}
 use Rattle.std.specs.Prelude.{◌||◌, ◌&&◌, not}
-use Rattle.std.proofs.lemmas.Bool.{cases_Bool}
 use Rattle.bj_core.specs.declared.types.Span.{Span}
 use Rattle.bj_tree.specs.declared.types.TypeTree.{TypeTree}
 use Rattle.bj_tree.specs.declared.expr.ExprTree.{ExprTree}
@@ -16,9 +15,9 @@ use Rattle.bj_expr.specs.Grammar as ge
 use Rattle.bj_expr.specs.Grammar.{primitives, type_words, TypeAt, Dims, Unary}
 use Rattle.bj_stmt.specs.Grammar as g
 use Rattle.bj_stmt.specs.Grammar.{jumps, MaybeFinal, MaybeInit, Declaration, StatementExpression, Evaluation, Statement, Block, BlockStatement, Member, Label, Catch}
-use Rattle.bj_stmt.specs.Reading.{inside, on_line, declares, is_labelled, branch_words, loop_words, leave_words, guard_words}
+use Rattle.bj_stmt.specs.Reading.{inside, on_line, declares}
 use Rattle.bj_stmt.proofs.Expressions.{Given, expression_words}
-use Rattle.bj_stmt.proofs.Leftmost.{each, or_cases, or_none, and_first, Next, Second, unary_leftmost, followed, assign_second, no_declaration}
+use Rattle.bj_stmt.proofs.Leftmost.{each, or_cases, Next, Second, unary_leftmost, followed, assign_second, no_declaration}
 use Rattle.bj_stmt.proofs.Begins as Begins
 
 -- ---- types

@@ -1,23 +1,18 @@
 -- The laws of statements, blocks and their members, at every depth.
-use Rattle.std.proofs.Common.{◌≡◌, ◌≢◌, ℕ, zero, suc, ◌+◌, ◌<◌, ◌≤◌, ◌⊎◌, inl, inr, Bool, true, false, cond, refl, sym, ap, ◌∙◌, subst, arith, le_refl, List, [], ◌∷◌, ◌++◌, Option, Some, None}
-use Rattle.std.specs.Prelude.{◌&&◌}
+use Rattle.std.proofs.Common.{◌≡◌, ℕ, zero, suc, ◌<◌, ◌≤◌, ◌⊎◌, inl, inr, Bool, true, false, cond, refl, sym, ap, ◌∙◌, subst, arith, le_refl, List, [], ◌∷◌, ◌++◌}
 use Rattle.std.proofs.lemmas.Bool.{both_ways}
 use Rattle.bj_core.specs.declared.types.Span.{Span}
-use Rattle.bj_lex.specs.declared.token.Token.{Token}
 use Rattle.bj_tree.specs.declared.types.TypeTree.{TypeTree}
 use Rattle.bj_tree.specs.declared.types.NamedPlace.{NamedPlace}
 use Rattle.bj_tree.specs.declared.expr.ExprTree.{ExprTree}
 use Rattle.bj_tree.specs.declared.expr.ExprTree.TheVariants as tree
-use Rattle.bj_tree.specs.declared.stmt.VariableTree.{VariableTree}
 use Rattle.bj_tree.specs.declared.stmt.StmtTree.{StmtTree}
 use Rattle.bj_tree.specs.declared.stmt.StmtTree.TheVariants as stmt
 use Rattle.bj_grammar.specs.declared.terminal.Terminal.{Terminal}
 use Rattle.bj_grammar.specs.declared.terminal.Terminal.TheVariants as t
 use Rattle.bj_grammar.specs.Terminal.{terminal, same_terminal, among}
-use Rattle.bj_grammar.specs.Reader.{Text, Answer, Found, Wrong, Over, Parser, and_then, ◌>>=◌, pure, over, here, operator, word, sign, ahead, choose, loop}
-use Rattle.bj_grammar.proofs.Terminals.{is_token}
-use Rattle.bj_grammar.proofs.Laws.{Rel, Shape, Outcome, Laws, Then, then_shape, Same, Word, Operator, Either, Steps, done, more, stop, same_laws, pure_laws, over_laws, steps_end, steps_fold, is_kind, kind_is, and_then_found, ahead_laws, loop_laws, reaches, seq, alt, tok, op, start, renamed, taller, rep, rep_by}
-use Rattle.bj_expr.specs.declared.part.Part.TheVariants as part
+use Rattle.bj_grammar.specs.Reader.{Text, Found, Parser, ◌>>=◌, pure, here, sign, ahead, choose, loop}
+use Rattle.bj_grammar.proofs.Laws.{Rel, Laws, Then, Same, Word, Either, Steps, done, more, stop, pure_laws, steps_end, steps_fold, is_kind, kind_is, and_then_found, ahead_laws, loop_laws, reaches, seq, alt, tok, start, renamed}
 use Rattle.bj_expr.specs.Grammar as ge
 use Rattle.bj_expr.specs.Grammar.{primitives, type_words, TypeAt, Dims, Expression}
 use Rattle.bj_expr.specs.Reading.{is, type_at}
@@ -28,56 +23,16 @@ use Rattle.bj_stmt.specs.Grammar.{is_statement, jump, jumps, dangles, MaybeFinal
 use Rattle.bj_stmt.specs.Reading as r
 use Rattle.bj_stmt.specs.Reading.{declares, is_labelled, is_class_lock, is_constructor_call, constructors, inside, is_empty, branch_words, loop_words, leave_words, guard_words}
 use Rattle.bj_stmt.specs.Nodes.{stmt_nodes_at, StmtHasNode, SomeStmtHasNode}
-use Rattle.bj_stmt.proofs.Expressions.{Given, expression_words, enders, AfterType, Never}
+use Rattle.bj_stmt.proofs.Expressions.{Given, expression_words}
 use Rattle.bj_stmt.proofs.StmtTall as tall
-use Rattle.bj_stmt.proofs.StmtShape.{block_forward, block_statement_forward, member_forward, label_forward, catch_forward, evaluation_forward}
-use Rattle.bj_stmt.proofs.Leftmost.{each, or_cases, is_not, none_of, or_none, or_split, and_first, and_second, Second, Next, followed, expression_leftmost, paren_second, semicolon_second, comma_second}
+use Rattle.bj_stmt.proofs.StmtShape.{block_statement_forward}
+use Rattle.bj_stmt.proofs.Leftmost.{each, or_cases, is_not, none_of, or_none, and_first, and_second, semicolon_second}
 use Rattle.bj_stmt.proofs.Begins as Begins
 use Rattle.bj_stmt.proofs.Begins.{no_follow, member_words, First, member_first}
-use Rattle.bj_stmt.proofs.Starts.{member_begins, block_statement_begins, statement_begins, evaluation_begins, block_begins, block_member_word, statement_block_word, is_inside, dims_two, type_declares, final_declares, evaluation_declares, evaluation_next}
-use Rattle.bj_stmt.proofs.Ahead.{stop_then, forth, stop_word, declares_depends, labelled_depends, class_depends, constructor_depends, type_past, type_past_bracket, evaluation_past, evaluation_past_bracket, value_past, value_past_dot, goes_on, call_evaluation, assigned_evaluation}
-use Rattle.bj_stmt.proofs.Small.{same_after, pick_laws, list_facts, CommaVariable, VariablesBehind, variables_behind_laws, variables_below_laws, variables_word, Cased, Defaulted, to_named, from_named, declaration_laws, evaluation_laws, constructor_call_laws, label_laws, LabelRel, case_laws, default_laws, to_label, from_label, Any, Before, InList, list_ends, in_list, in_enders, sign_facts, final_laws, type_no_final, NameAt, name_laws, maybe_name_laws, ExprRel, value_laws, value_ends, maybe_value_laws, all_values_laws}
-use Rattle.bj_stmt.proofs.Rules.{
-  StandsAs,
-  AfterStatement,
-  AfterPart,
-  handlers,
-  InBlock,
-  in_block,
-  NoElse,
-  Greedy,
-  then_greedy,
-  word_greedy,
-  operator_greedy,
-  ahead_greedy,
-  pure_greedy,
-  over_greedy,
-  last_greedy,
-  stop_ahead,
-  stop_found,
-  and_first_true,
-  and_second_true,
-  and_join,
-  WhileRel,
-  while_laws,
-  to_while,
-  DoRel,
-  do_laws,
-  to_do,
-  BranchRel,
-  branching_laws,
-  branch_begins,
-  to_branch,
-  LeaveRel,
-  leaving_laws,
-  leave_begins,
-  to_leave,
-  GuardRel,
-  guarding_laws,
-  guard_begins,
-  to_guard,
-  catch_laws,
-}
+use Rattle.bj_stmt.proofs.Starts.{block_statement_begins, evaluation_begins, block_begins, block_member_word, is_inside, type_declares, final_declares, evaluation_declares, evaluation_next}
+use Rattle.bj_stmt.proofs.Ahead.{stop_then, forth, stop_word, declares_depends, labelled_depends, constructor_depends, type_past, type_past_bracket, evaluation_past, goes_on, call_evaluation, assigned_evaluation}
+use Rattle.bj_stmt.proofs.Small.{same_after, variables_below_laws, variables_word, Cased, Defaulted, declaration_laws, evaluation_laws, constructor_call_laws, label_laws, case_laws, default_laws, to_label, from_label, Any, in_list, sign_facts}
+use Rattle.bj_stmt.proofs.Rules.{StandsAs, AfterStatement, AfterPart, handlers, InBlock, in_block, Greedy, then_greedy, word_greedy, operator_greedy, ahead_greedy, pure_greedy, over_greedy, last_greedy, stop_ahead, stop_found, and_first_true, and_join, WhileRel, while_laws, to_while, DoRel, do_laws, to_do, BranchRel, branching_laws, branch_begins, to_branch, LeaveRel, leaving_laws, leave_begins, to_leave, GuardRel, guarding_laws, guard_begins, to_guard, catch_laws}
 use Rattle.bj_stmt.proofs.ForRules.{ForRel, for_laws, to_for, from_for, from_each}
 
 module _ (place : ℕ → Span) (most : ℕ) (given : Given place most) (room : ℕ) (nested : StmtPart → Parser StmtTree)

@@ -1,16 +1,14 @@
 -- What holds of every statement that the grammar derives: it goes forward, and depends on its own tokens alone.
-use Rattle.std.proofs.Common.{◌≡◌, ℕ, zero, suc, ◌+◌, ◌<◌, ◌≤◌, Bool, true, false, refl, sym, ap, ◌∙◌, subst, arith, List, [], ◌∷◌, ◌++◌, Option, Some}
+use Rattle.std.proofs.Common.{◌≡◌, ℕ, suc, ◌<◌, ◌≤◌, Bool, true, sym, ap, ◌∙◌, subst, arith, List, [], ◌∷◌, Option, Some}
 use Rattle.bj_core.specs.declared.types.Span.{Span}
 use Rattle.bj_lex.specs.declared.token.Token.{Token}
 use Rattle.bj_tree.specs.declared.types.NamedPlace.{NamedPlace}
-use Rattle.bj_tree.specs.declared.types.TypeTree.{TypeTree}
 use Rattle.bj_tree.specs.declared.expr.ExprTree.{ExprTree}
 use Rattle.bj_tree.specs.declared.expr.ExprTree.TheVariants as tree
 use Rattle.bj_tree.specs.declared.stmt.VariableTree.{VariableTree}
 use Rattle.bj_tree.specs.declared.stmt.StmtTree.{StmtTree}
 use Rattle.bj_tree.specs.declared.stmt.StmtTree.TheVariants as stmt
 use Rattle.bj_grammar.specs.declared.terminal.Terminal.{Terminal}
-use Rattle.bj_grammar.specs.declared.terminal.Terminal.TheVariants as t
 use Rattle.bj_grammar.specs.Terminal.{terminal, among}
 use Rattle.bj_grammar.specs.Reader.{Text}
 use Rattle.bj_expr.specs.declared.part.Part.TheVariants as part

@@ -3,18 +3,18 @@ ghost use Rattle.bj_stmt.specs.Given.{Nests, over_nested, block_of};
 ghost use Rattle.bj_stmt.specs.Reading as spec;
 
 use crate::StmtPart;
-use crate::nodes::one;
+use crate::nodes::{node, one};
 use crate::reader::Reader;
 use crate::tokens::{inside, is_constructor_call};
 use bj_expr::Bounds;
 use bj_grammar::{Stop, Symbol, Terminal, out_of_turns, place, word};
 use bj_tree::{StmtTree, StmtTrees};
-use sqlite_items::Items;
+use sqlite_items::{Boxed, Items};
 use std::alloc::Global;
 
-impl<F: Fn(Global, &[Symbol], Bounds, usize, StmtPart) -> Result<(StmtTree, usize), Stop>> Reader<
-    F,
-> {
+impl<
+    F: Fn(Global, &[Symbol], Bounds, usize, StmtPart) -> Result<(Boxed<StmtTree>, usize), Stop>,
+> Reader<F> {
     /// A statement of a block, after others.
     #[tactic(auto, unfolding(crate::specs::Reading::next_statement))]
     fn next_statement(
@@ -27,7 +27,7 @@ impl<F: Fn(Global, &[Symbol], Bounds, usize, StmtPart) -> Result<(StmtTree, usiz
         ensures { Gives result (over_nested spec.next_statement tokens.now self.now.bounds found (text_of tokens.now) at) }
     {
         let (next, at) = self.nest(tokens, at, StmtPart::BlockStatement)?;
-        found.push(next)?;
+        found.push(next.into_inner())?;
         Ok((found, at))
     }
 
@@ -61,7 +61,7 @@ impl<F: Fn(Global, &[Symbol], Bounds, usize, StmtPart) -> Result<(StmtTree, usiz
         start: usize,
         found: StmtTrees,
         at: usize,
-    ) -> Result<(StmtTree, usize), Stop>
+    ) -> Result<(Boxed<StmtTree>, usize), Stop>
         requires { Nests self.now.bounds (F.pre self.now.nested) (F.post self.now.nested) }
         ensures { Gives result (over_nested spec.rest_of_block tokens.now self.now.bounds start found (text_of tokens.now) at) }
     {
@@ -72,12 +72,16 @@ impl<F: Fn(Global, &[Symbol], Bounds, usize, StmtPart) -> Result<(StmtTree, usiz
             body,
             end: place(tokens, end),
         };
-        Ok((tree, at))
+        node(self.alloc, tree, at)
     }
 
     /// A block [JLS 14.2].
     #[tactic(auto, unfolding(crate::specs::Reading::block))]
-    pub(crate) fn block(&self, tokens: &[Symbol], start: usize) -> Result<(StmtTree, usize), Stop>
+    pub(crate) fn block(
+        &self,
+        tokens: &[Symbol],
+        start: usize,
+    ) -> Result<(Boxed<StmtTree>, usize), Stop>
         requires { Nests self.now.bounds (F.pre self.now.nested) (F.post self.now.nested) }
         ensures { Gives result (over_nested spec.block tokens.now self.now.bounds (text_of tokens.now) start) }
     {
@@ -91,7 +95,7 @@ impl<F: Fn(Global, &[Symbol], Bounds, usize, StmtPart) -> Result<(StmtTree, usiz
         &self,
         tokens: &[Symbol],
         start: usize,
-    ) -> Result<(StmtTree, usize), Stop>
+    ) -> Result<(Boxed<StmtTree>, usize), Stop>
         requires { Nests self.now.bounds (F.pre self.now.nested) (F.post self.now.nested) }
         ensures { Gives result (over_nested spec.constructor_body tokens.now self.now.bounds (text_of tokens.now) start) }
     {

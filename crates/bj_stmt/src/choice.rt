@@ -3,35 +3,40 @@ ghost use Rattle.bj_stmt.specs.Given.{Nests, over_nested, members_of, otherwise}
 ghost use Rattle.bj_stmt.specs.Reading as spec;
 
 use crate::StmtPart;
-use crate::nodes::{if_else_node, if_node};
+use crate::nodes::node;
 use crate::reader::Reader;
 use crate::tokens::inside;
 use crate::values::value;
 use bj_expr::Bounds;
 use bj_grammar::{Stop, Symbol, Terminal, out_of_turns, place, sees, word};
 use bj_tree::{ExprTree, StmtTree, StmtTrees};
-use sqlite_items::Items;
+use sqlite_items::{Boxed, Items};
 use std::alloc::Global;
 
-impl<F: Fn(Global, &[Symbol], Bounds, usize, StmtPart) -> Result<(StmtTree, usize), Stop>> Reader<
-    F,
-> {
+impl<
+    F: Fn(Global, &[Symbol], Bounds, usize, StmtPart) -> Result<(Boxed<StmtTree>, usize), Stop>,
+> Reader<F> {
     /// `else` and its statement, behind an `if` [JLS 14.9.2].
     fn choice_else(
         &self,
         tokens: &[Symbol],
         start: usize,
-        test: ExprTree,
-        body: StmtTree,
+        test: Boxed<ExprTree>,
+        body: Boxed<StmtTree>,
         at: usize,
-    ) -> Result<(StmtTree, usize), Stop>
+    ) -> Result<(Boxed<StmtTree>, usize), Stop>
         requires { Nests self.now.bounds (F.pre self.now.nested) (F.post self.now.nested) }
         ensures { Gives result (otherwise tokens.now self.now.bounds start test body (text_of tokens.now) at) }
     {
         let at = word(tokens, at, Terminal::Else)?;
         let (other, at) = self.nest(tokens, at, StmtPart::Statement)?;
-        let tree = if_else_node(self.alloc, place(tokens, start), test, body, other)?;
-        Ok((tree, at))
+        let tree = StmtTree::IfElse {
+            at: place(tokens, start),
+            test,
+            body,
+            other,
+        };
+        node(self.alloc, tree, at)
     }
 
     /// What follows the statement of an `if`: an `else` belongs to it.
@@ -40,23 +45,32 @@ impl<F: Fn(Global, &[Symbol], Bounds, usize, StmtPart) -> Result<(StmtTree, usiz
         &self,
         tokens: &[Symbol],
         start: usize,
-        test: ExprTree,
-        body: StmtTree,
+        test: Boxed<ExprTree>,
+        body: Boxed<StmtTree>,
         at: usize,
-    ) -> Result<(StmtTree, usize), Stop>
+    ) -> Result<(Boxed<StmtTree>, usize), Stop>
         requires { Nests self.now.bounds (F.pre self.now.nested) (F.post self.now.nested) }
         ensures { Gives result (over_nested spec.choice_tail tokens.now self.now.bounds start test body (text_of tokens.now) at) }
     {
         if sees(tokens, at, Terminal::Else) {
             return self.choice_else(tokens, start, test, body, at);
         }
-        let tree = if_node(self.alloc, place(tokens, start), test, body)?;
-        Ok((tree, at))
+        let tree = StmtTree::If {
+            at: place(tokens, start),
+            test,
+            body,
+        };
+        node(self.alloc, tree, at)
     }
 
     /// An `if` [JLS 14.9].
     #[tactic(auto, unfolding(crate::specs::Reading::choice, crate::specs::Reading::in_parens))]
-    fn choice(&self, tokens: &[Symbol], start: usize, at: usize) -> Result<(StmtTree, usize), Stop>
+    fn choice(
+        &self,
+        tokens: &[Symbol],
+        start: usize,
+        at: usize,
+    ) -> Result<(Boxed<StmtTree>, usize), Stop>
         requires { Nests self.now.bounds (F.pre self.now.nested) (F.post self.now.nested) }
         ensures { Gives result (over_nested spec.choice tokens.now self.now.bounds start (text_of tokens.now) at) }
     {
@@ -80,7 +94,7 @@ impl<F: Fn(Global, &[Symbol], Bounds, usize, StmtPart) -> Result<(StmtTree, usiz
         ensures { Gives result (over_nested spec.next_member tokens.now self.now.bounds found (text_of tokens.now) at) }
     {
         let (next, at) = self.nest(tokens, at, StmtPart::Member)?;
-        found.push(next)?;
+        found.push(next.into_inner())?;
         Ok((found, at))
     }
 
@@ -117,7 +131,7 @@ impl<F: Fn(Global, &[Symbol], Bounds, usize, StmtPart) -> Result<(StmtTree, usiz
             return Ok((found, at));
         }
         let (first, at) = self.nest(tokens, at, StmtPart::Label)?;
-        found.push(first)?;
+        found.push(first.into_inner())?;
         self.more_members(tokens, found, at)
     }
 
@@ -127,9 +141,9 @@ impl<F: Fn(Global, &[Symbol], Bounds, usize, StmtPart) -> Result<(StmtTree, usiz
         &self,
         tokens: &[Symbol],
         start: usize,
-        value: ExprTree,
+        value: Boxed<ExprTree>,
         at: usize,
-    ) -> Result<(StmtTree, usize), Stop>
+    ) -> Result<(Boxed<StmtTree>, usize), Stop>
         requires { Nests self.now.bounds (F.pre self.now.nested) (F.post self.now.nested) }
         ensures { Gives result (over_nested spec.switched tokens.now self.now.bounds start value (text_of tokens.now) at) }
     {
@@ -141,12 +155,17 @@ impl<F: Fn(Global, &[Symbol], Bounds, usize, StmtPart) -> Result<(StmtTree, usiz
             value,
             members,
         };
-        Ok((tree, at))
+        node(self.alloc, tree, at)
     }
 
     /// A `switch` [JLS 14.11].
     #[tactic(auto, unfolding(crate::specs::Reading::switch, crate::specs::Reading::in_parens))]
-    fn switch(&self, tokens: &[Symbol], start: usize, at: usize) -> Result<(StmtTree, usize), Stop>
+    fn switch(
+        &self,
+        tokens: &[Symbol],
+        start: usize,
+        at: usize,
+    ) -> Result<(Boxed<StmtTree>, usize), Stop>
         requires { Nests self.now.bounds (F.pre self.now.nested) (F.post self.now.nested) }
         ensures { Gives result (over_nested spec.switch tokens.now self.now.bounds start (text_of tokens.now) at) }
     {
@@ -164,7 +183,7 @@ impl<F: Fn(Global, &[Symbol], Bounds, usize, StmtPart) -> Result<(StmtTree, usiz
         tokens: &[Symbol],
         start: usize,
         at: usize,
-    ) -> Result<(StmtTree, usize), Stop>
+    ) -> Result<(Boxed<StmtTree>, usize), Stop>
         requires { Nests self.now.bounds (F.pre self.now.nested) (F.post self.now.nested) }
         ensures { Gives result (over_nested spec.branching tokens.now self.now.bounds start (text_of tokens.now) at) }
     {

@@ -1,19 +1,18 @@
-ghost use Rattle.std.specs.Prelude.{◌≡◌, IfOk};
+ghost use Rattle.std.specs.Prelude.{◌≡◌};
 ghost use Rattle.bj_grammar.specs.Given.{text_of, place_of, Gives};
 ghost use Rattle.bj_grammar.specs.Reader.{sign, pure};
 ghost use Rattle.bj_grammar.specs.declared.terminal.Terminal.TheVariants as t;
 ghost use Rattle.bj_stmt.specs.Given.{over_bounds, over_nested};
 ghost use Rattle.bj_stmt.specs.Grammar as grammar;
 ghost use Rattle.bj_stmt.specs.Reading as spec;
-ghost use Rattle.bj_tree.specs.declared.expr.ExprTree.TheVariants as e;
 
+use crate::nodes::node;
 use crate::values::value;
-use bj_core::Span;
 use bj_expr::{Bounds, Part, assign_at, assign_op, is_assign, limited, part_at};
 use bj_grammar::{Stop, Symbol, Terminal, place, word};
-use bj_tree::{AssignOp, ExprTree, StmtTree};
+use bj_tree::{ExprTree, StmtTree};
 use sqlite_items::Boxed;
-use std::alloc::{AllocError, Global};
+use std::alloc::Global;
 
 /// Whether an expression may be a statement: a step of a variable, a call or a new object [JLS 14.8].
 fn is_statement(tree: &ExprTree) -> bool
@@ -30,25 +29,6 @@ fn is_statement(tree: &ExprTree) -> bool
     }
 }
 
-fn assign_node(
-    alloc: Global,
-    at: Span,
-    op: AssignOp,
-    target: ExprTree,
-    value: ExprTree,
-) -> Result<ExprTree, AllocError>
-    ensures { IfOk result (λ tree. tree ≡ e.Assign at op target value) }
-{
-    let target = Boxed::new(alloc, target)?;
-    let value = Boxed::new(alloc, value)?;
-    Ok(ExprTree::Assign {
-        at,
-        op,
-        target,
-        value,
-    })
-}
-
 /// What is assigned, which is a node below the assignment.
 #[tactic(auto, unfolding(crate::specs::Reading::assigned))]
 fn assigned(
@@ -56,7 +36,7 @@ fn assigned(
     tokens: &[Symbol],
     bounds: Bounds,
     at: usize,
-) -> Result<(ExprTree, usize), Stop>
+) -> Result<(Boxed<ExprTree>, usize), Stop>
     ensures { Gives result (over_bounds spec.assigned tokens.now bounds (text_of tokens.now) at) }
 {
     let below = Bounds {
@@ -73,16 +53,21 @@ fn assignment(
     tokens: &[Symbol],
     bounds: Bounds,
     start: usize,
-    target: ExprTree,
+    target: Boxed<ExprTree>,
     at: usize,
-) -> Result<(ExprTree, usize), Stop>
+) -> Result<(Boxed<ExprTree>, usize), Stop>
     ensures { Gives result (over_bounds spec.assignment tokens.now bounds start target (text_of tokens.now) at) }
 {
     let (op, at) = assign_at(tokens, at)?;
     let (target, at) = limited(tokens, target, bounds.room.saturating_sub(1), at)?;
     let (value, at) = assigned(alloc, tokens, bounds, at)?;
-    let tree = assign_node(alloc, place(tokens, start), assign_op(op), target, value)?;
-    Ok((tree, at))
+    let tree = ExprTree::Assign {
+        at: place(tokens, start),
+        op: assign_op(op),
+        target,
+        value,
+    };
+    Ok((Boxed::new(alloc, tree)?, at))
 }
 
 /// An expression that may be a statement, behind a unary one at its beginning.
@@ -92,12 +77,12 @@ fn evaluated(
     tokens: &[Symbol],
     bounds: Bounds,
     start: usize,
-    first: ExprTree,
+    first: Boxed<ExprTree>,
     at: usize,
-) -> Result<(ExprTree, usize), Stop>
+) -> Result<(Boxed<ExprTree>, usize), Stop>
     ensures { Gives result (over_bounds spec.evaluated tokens.now bounds start first (text_of tokens.now) at) }
 {
-    if is_statement(&first) {
+    if is_statement(first.get()) {
         if is_assign(tokens, at) {
             return assignment(alloc, tokens, bounds, start, first, at);
         }
@@ -113,7 +98,7 @@ fn statement_expression(
     tokens: &[Symbol],
     bounds: Bounds,
     start: usize,
-) -> Result<(ExprTree, usize), Stop>
+) -> Result<(Boxed<ExprTree>, usize), Stop>
     ensures { Gives result (over_bounds spec.statement_expression tokens.now bounds (text_of tokens.now) start) }
 {
     let (first, at) = part_at(alloc, tokens, bounds, start, Part::Unary)?;
@@ -127,7 +112,7 @@ pub(crate) fn evaluation(
     tokens: &[Symbol],
     bounds: Bounds,
     start: usize,
-) -> Result<(StmtTree, usize), Stop>
+) -> Result<(Boxed<StmtTree>, usize), Stop>
     ensures { Gives result (over_bounds spec.evaluation tokens.now bounds (text_of tokens.now) start) }
 {
     let (value, at) = statement_expression(alloc, tokens, bounds, start)?;
@@ -135,15 +120,15 @@ pub(crate) fn evaluation(
         at: place(tokens, start),
         value,
     };
-    Ok((tree, at))
+    node(alloc, tree, at)
 }
 
 /// A semicolon behind a statement.
 pub(crate) fn closed(
     tokens: &[Symbol],
-    tree: StmtTree,
+    tree: Boxed<StmtTree>,
     at: usize,
-) -> Result<(StmtTree, usize), Stop>
+) -> Result<(Boxed<StmtTree>, usize), Stop>
     ensures { Gives result (sign t.Semicolon (pure tree) (text_of tokens.now) at) }
 {
     let at = word(tokens, at, Terminal::Semicolon)?;
@@ -157,7 +142,7 @@ pub(crate) fn evaluate(
     tokens: &[Symbol],
     bounds: Bounds,
     start: usize,
-) -> Result<(StmtTree, usize), Stop>
+) -> Result<(Boxed<StmtTree>, usize), Stop>
     ensures { Gives result (over_nested spec.evaluate tokens.now bounds (text_of tokens.now) start) }
 {
     let (tree, at) = evaluation(alloc, tokens, bounds, start)?;

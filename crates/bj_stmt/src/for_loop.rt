@@ -4,7 +4,7 @@ ghost use Rattle.bj_stmt.specs.Reading as spec;
 
 use crate::StmtPart;
 use crate::names::{maybe_final, name_at};
-use crate::nodes::{for_each_node, for_node, one_local};
+use crate::nodes::{node, one_local};
 use crate::reader::Reader;
 use crate::tokens::declares;
 use crate::values::{all_values, maybe_value, value};
@@ -12,7 +12,7 @@ use crate::variables::variables_behind;
 use bj_expr::{Bounds, type_at};
 use bj_grammar::{Stop, Symbol, Terminal, out_of_turns, place, sees, word};
 use bj_tree::{ExprTree, ExprTrees, NamedPlace, StmtTree, StmtTrees, TypeTree};
-use sqlite_items::Items;
+use sqlite_items::{Boxed, Items};
 use std::alloc::Global;
 
 /// What a `for` that declares begins with, up to the first name.
@@ -30,26 +30,32 @@ pub(crate) struct ForHead {
     name: NamedPlace,
 }
 
-impl<F: Fn(Global, &[Symbol], Bounds, usize, StmtPart) -> Result<(StmtTree, usize), Stop>> Reader<
-    F,
-> {
+impl<
+    F: Fn(Global, &[Symbol], Bounds, usize, StmtPart) -> Result<(Boxed<StmtTree>, usize), Stop>,
+> Reader<F> {
     /// The statement of a `for`, behind its closing parenthesis.
     fn for_body(
         &self,
         tokens: &[Symbol],
         start: usize,
         init: StmtTrees,
-        test: Option<ExprTree>,
+        test: Option<Boxed<ExprTree>>,
         update: ExprTrees,
         at: usize,
-    ) -> Result<(StmtTree, usize), Stop>
+    ) -> Result<(Boxed<StmtTree>, usize), Stop>
         requires { Nests self.now.bounds (F.pre self.now.nested) (F.post self.now.nested) }
         ensures { Gives result (for_rest tokens.now self.now.bounds start init test update (text_of tokens.now) at) }
     {
         let at = word(tokens, at, Terminal::RightParen)?;
         let (body, at) = self.nest(tokens, at, StmtPart::Statement)?;
-        let tree = for_node(self.alloc, place(tokens, start), init, test, update, body)?;
-        Ok((tree, at))
+        let tree = StmtTree::For {
+            at: place(tokens, start),
+            init,
+            test,
+            update,
+            body,
+        };
+        node(self.alloc, tree, at)
     }
 
     /// The rest of a `for`, behind what it begins with.
@@ -60,7 +66,7 @@ impl<F: Fn(Global, &[Symbol], Bounds, usize, StmtPart) -> Result<(StmtTree, usiz
         start: usize,
         init: StmtTrees,
         at: usize,
-    ) -> Result<(StmtTree, usize), Stop>
+    ) -> Result<(Boxed<StmtTree>, usize), Stop>
         requires { Nests self.now.bounds (F.pre self.now.nested) (F.post self.now.nested) }
         ensures { Gives result (over_nested spec.for_tail tokens.now self.now.bounds start init (text_of tokens.now) at) }
     {
@@ -84,7 +90,7 @@ impl<F: Fn(Global, &[Symbol], Bounds, usize, StmtPart) -> Result<(StmtTree, usiz
     {
         let at = word(tokens, at, Terminal::Comma)?;
         let (next, at) = self.nest(tokens, at, StmtPart::Evaluation)?;
-        found.push(next)?;
+        found.push(next.into_inner())?;
         Ok((found, at))
     }
 
@@ -118,7 +124,7 @@ impl<F: Fn(Global, &[Symbol], Bounds, usize, StmtPart) -> Result<(StmtTree, usiz
     {
         let (first, at) = self.nest(tokens, at, StmtPart::Evaluation)?;
         let mut found = Items::new(self.alloc);
-        found.push(first)?;
+        found.push(first.into_inner())?;
         self.more_evaluations(tokens, found, at)
     }
 
@@ -130,7 +136,7 @@ impl<F: Fn(Global, &[Symbol], Bounds, usize, StmtPart) -> Result<(StmtTree, usiz
         start: usize,
         head: ForHead,
         at: usize,
-    ) -> Result<(StmtTree, usize), Stop>
+    ) -> Result<(Boxed<StmtTree>, usize), Stop>
         requires { Nests self.now.bounds (F.pre self.now.nested) (F.post self.now.nested) }
         ensures { Gives result (over_nested spec.for_each tokens.now self.now.bounds start head.is_final head.of head.name (text_of tokens.now) at) }
     {
@@ -144,16 +150,15 @@ impl<F: Fn(Global, &[Symbol], Bounds, usize, StmtPart) -> Result<(StmtTree, usiz
             name,
             ..
         } = head;
-        let tree = for_each_node(
-            self.alloc,
-            place(tokens, start),
+        let tree = StmtTree::ForEach {
+            at: place(tokens, start),
             is_final,
             of,
             name,
             over,
             body,
-        )?;
-        Ok((tree, at))
+        };
+        node(self.alloc, tree, at)
     }
 
     /// A `for` that begins with no declaration [JLS 14.14.1].
@@ -163,7 +168,7 @@ impl<F: Fn(Global, &[Symbol], Bounds, usize, StmtPart) -> Result<(StmtTree, usiz
         tokens: &[Symbol],
         start: usize,
         at: usize,
-    ) -> Result<(StmtTree, usize), Stop>
+    ) -> Result<(Boxed<StmtTree>, usize), Stop>
         requires { Nests self.now.bounds (F.pre self.now.nested) (F.post self.now.nested) }
         ensures { Gives result (over_nested spec.for_evaluated tokens.now self.now.bounds start (text_of tokens.now) at) }
     {
@@ -182,7 +187,7 @@ impl<F: Fn(Global, &[Symbol], Bounds, usize, StmtPart) -> Result<(StmtTree, usiz
         start: usize,
         head: ForHead,
         at: usize,
-    ) -> Result<(StmtTree, usize), Stop>
+    ) -> Result<(Boxed<StmtTree>, usize), Stop>
         requires { Nests self.now.bounds (F.pre self.now.nested) (F.post self.now.nested) }
         ensures { Gives result (over_nested spec.for_variables tokens.now self.now.bounds start head.declared head.is_final head.of head.name head.named (text_of tokens.now) at) }
     {
@@ -218,7 +223,7 @@ impl<F: Fn(Global, &[Symbol], Bounds, usize, StmtPart) -> Result<(StmtTree, usiz
         is_final: bool,
         of: TypeTree,
         named: usize,
-    ) -> Result<(StmtTree, usize), Stop>
+    ) -> Result<(Boxed<StmtTree>, usize), Stop>
         requires { Nests self.now.bounds (F.pre self.now.nested) (F.post self.now.nested) }
         ensures { Gives result (over_nested spec.for_named tokens.now self.now.bounds start declared is_final of (text_of tokens.now) named) }
     {
@@ -243,7 +248,7 @@ impl<F: Fn(Global, &[Symbol], Bounds, usize, StmtPart) -> Result<(StmtTree, usiz
         tokens: &[Symbol],
         start: usize,
         declared: usize,
-    ) -> Result<(StmtTree, usize), Stop>
+    ) -> Result<(Boxed<StmtTree>, usize), Stop>
         requires { Nests self.now.bounds (F.pre self.now.nested) (F.post self.now.nested) }
         ensures { Gives result (over_nested spec.for_declared tokens.now self.now.bounds start (text_of tokens.now) declared) }
     {
@@ -259,7 +264,7 @@ impl<F: Fn(Global, &[Symbol], Bounds, usize, StmtPart) -> Result<(StmtTree, usiz
         tokens: &[Symbol],
         start: usize,
         at: usize,
-    ) -> Result<(StmtTree, usize), Stop>
+    ) -> Result<(Boxed<StmtTree>, usize), Stop>
         requires { Nests self.now.bounds (F.pre self.now.nested) (F.post self.now.nested) }
         ensures { Gives result (over_nested spec.for_loop tokens.now self.now.bounds start (text_of tokens.now) at) }
     {

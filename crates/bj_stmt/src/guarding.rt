@@ -5,14 +5,14 @@ ghost use Rattle.bj_stmt.specs.Reading as spec;
 
 use crate::StmtPart;
 use crate::names::{maybe_final, name_at};
-use crate::nodes::{catch_node, class_lock_node, object_lock_node, try_finally_node, try_node};
+use crate::nodes::{node, one_type};
 use crate::reader::Reader;
 use crate::tokens::is_class_lock;
 use crate::values::value;
 use bj_expr::{Bounds, type_at};
 use bj_grammar::{Stop, Symbol, Terminal, out_of_turns, place, sees, word};
 use bj_tree::{NamedPlace, StmtTree, StmtTrees, TypeTree};
-use sqlite_items::Items;
+use sqlite_items::{Boxed, Items};
 use std::alloc::Global;
 
 /// Whether there is no statement.
@@ -25,9 +25,9 @@ fn is_empty(trees: &StmtTrees) -> bool
     }
 }
 
-impl<F: Fn(Global, &[Symbol], Bounds, usize, StmtPart) -> Result<(StmtTree, usize), Stop>> Reader<
-    F,
-> {
+impl<
+    F: Fn(Global, &[Symbol], Bounds, usize, StmtPart) -> Result<(Boxed<StmtTree>, usize), Stop>,
+> Reader<F> {
     /// The class of a `synchronized` and its block, behind the opening parenthesis.
     #[tactic(auto, unfolding(crate::specs::Reading::class_lock))]
     fn class_lock(
@@ -35,7 +35,7 @@ impl<F: Fn(Global, &[Symbol], Bounds, usize, StmtPart) -> Result<(StmtTree, usiz
         tokens: &[Symbol],
         start: usize,
         at: usize,
-    ) -> Result<(StmtTree, usize), Stop>
+    ) -> Result<(Boxed<StmtTree>, usize), Stop>
         requires { Nests self.now.bounds (F.pre self.now.nested) (F.post self.now.nested) }
         ensures { Gives result (over_nested spec.class_lock tokens.now self.now.bounds start (text_of tokens.now) at) }
     {
@@ -44,8 +44,12 @@ impl<F: Fn(Global, &[Symbol], Bounds, usize, StmtPart) -> Result<(StmtTree, usiz
         let at = word(tokens, at, Terminal::Class)?;
         let at = word(tokens, at, Terminal::RightParen)?;
         let (body, at) = self.nest(tokens, at, StmtPart::Block)?;
-        let tree = class_lock_node(self.alloc, place(tokens, start), class, body)?;
-        Ok((tree, at))
+        let tree = StmtTree::SynchronizedClass {
+            at: place(tokens, start),
+            class,
+            body,
+        };
+        node(self.alloc, tree, at)
     }
 
     /// The object of a `synchronized` and its block, behind the opening parenthesis.
@@ -55,20 +59,29 @@ impl<F: Fn(Global, &[Symbol], Bounds, usize, StmtPart) -> Result<(StmtTree, usiz
         tokens: &[Symbol],
         start: usize,
         at: usize,
-    ) -> Result<(StmtTree, usize), Stop>
+    ) -> Result<(Boxed<StmtTree>, usize), Stop>
         requires { Nests self.now.bounds (F.pre self.now.nested) (F.post self.now.nested) }
         ensures { Gives result (over_nested spec.object_lock tokens.now self.now.bounds start (text_of tokens.now) at) }
     {
         let (lock, at) = value(self.alloc, tokens, self.bounds, at)?;
         let at = word(tokens, at, Terminal::RightParen)?;
         let (body, at) = self.nest(tokens, at, StmtPart::Block)?;
-        let tree = object_lock_node(self.alloc, place(tokens, start), lock, body)?;
-        Ok((tree, at))
+        let tree = StmtTree::Synchronized {
+            at: place(tokens, start),
+            lock,
+            body,
+        };
+        node(self.alloc, tree, at)
     }
 
     /// A `synchronized` [JLS 14.19].
     #[tactic(auto, unfolding(crate::specs::Reading::locked))]
-    fn locked(&self, tokens: &[Symbol], start: usize, at: usize) -> Result<(StmtTree, usize), Stop>
+    fn locked(
+        &self,
+        tokens: &[Symbol],
+        start: usize,
+        at: usize,
+    ) -> Result<(Boxed<StmtTree>, usize), Stop>
         requires { Nests self.now.bounds (F.pre self.now.nested) (F.post self.now.nested) }
         ensures { Gives result (over_nested spec.locked tokens.now self.now.bounds start (text_of tokens.now) at) }
     {
@@ -88,20 +101,31 @@ impl<F: Fn(Global, &[Symbol], Bounds, usize, StmtPart) -> Result<(StmtTree, usiz
         is_final: bool,
         of: TypeTree,
         at: usize,
-    ) -> Result<(StmtTree, usize), Stop>
+    ) -> Result<(Boxed<StmtTree>, usize), Stop>
         requires { Nests self.now.bounds (F.pre self.now.nested) (F.post self.now.nested) }
         ensures { Gives result (catch_rest tokens.now self.now.bounds start is_final of (text_of tokens.now) at) }
     {
         let (name, at) = name_at(self.alloc, tokens, at)?;
         let at = word(tokens, at, Terminal::RightParen)?;
         let (body, at) = self.nest(tokens, at, StmtPart::Block)?;
-        let tree = catch_node(self.alloc, place(tokens, start), is_final, of, name, body)?;
-        Ok((tree, at))
+        let types = one_type(self.alloc, of)?;
+        let tree = StmtTree::Catch {
+            at: place(tokens, start),
+            is_final,
+            types,
+            name,
+            body,
+        };
+        node(self.alloc, tree, at)
     }
 
     /// A catch of a `try` [JLS 14.20].
     #[tactic(auto, unfolding(crate::specs::Reading::catch))]
-    pub(crate) fn catch(&self, tokens: &[Symbol], start: usize) -> Result<(StmtTree, usize), Stop>
+    pub(crate) fn catch(
+        &self,
+        tokens: &[Symbol],
+        start: usize,
+    ) -> Result<(Boxed<StmtTree>, usize), Stop>
         requires { Nests self.now.bounds (F.pre self.now.nested) (F.post self.now.nested) }
         ensures { Gives result (over_nested spec.catch tokens.now self.now.bounds (text_of tokens.now) start) }
     {
@@ -124,7 +148,7 @@ impl<F: Fn(Global, &[Symbol], Bounds, usize, StmtPart) -> Result<(StmtTree, usiz
         ensures { Gives result (over_nested spec.next_catch tokens.now self.now.bounds found (text_of tokens.now) at) }
     {
         let (next, at) = self.nest(tokens, at, StmtPart::Catch)?;
-        found.push(next)?;
+        found.push(next.into_inner())?;
         Ok((found, at))
     }
 
@@ -165,17 +189,22 @@ impl<F: Fn(Global, &[Symbol], Bounds, usize, StmtPart) -> Result<(StmtTree, usiz
         &self,
         tokens: &[Symbol],
         start: usize,
-        body: StmtTree,
+        body: Boxed<StmtTree>,
         catches: StmtTrees,
         at: usize,
-    ) -> Result<(StmtTree, usize), Stop>
+    ) -> Result<(Boxed<StmtTree>, usize), Stop>
         requires { Nests self.now.bounds (F.pre self.now.nested) (F.post self.now.nested) }
         ensures { Gives result (over_nested spec.finally tokens.now self.now.bounds start body catches (text_of tokens.now) at) }
     {
         let at = word(tokens, at, Terminal::Finally)?;
         let (finally, at) = self.nest(tokens, at, StmtPart::Block)?;
-        let tree = try_finally_node(self.alloc, place(tokens, start), body, catches, finally)?;
-        Ok((tree, at))
+        let tree = StmtTree::TryFinally {
+            at: place(tokens, start),
+            body,
+            catches,
+            finally,
+        };
+        node(self.alloc, tree, at)
     }
 
     /// What follows the catches of a `try`, which has a catch or a `finally`.
@@ -184,10 +213,10 @@ impl<F: Fn(Global, &[Symbol], Bounds, usize, StmtPart) -> Result<(StmtTree, usiz
         &self,
         tokens: &[Symbol],
         start: usize,
-        body: StmtTree,
+        body: Boxed<StmtTree>,
         catches: StmtTrees,
         at: usize,
-    ) -> Result<(StmtTree, usize), Stop>
+    ) -> Result<(Boxed<StmtTree>, usize), Stop>
         requires { Nests self.now.bounds (F.pre self.now.nested) (F.post self.now.nested) }
         ensures { Gives result (over_nested spec.try_tail tokens.now self.now.bounds start body catches (text_of tokens.now) at) }
     {
@@ -197,13 +226,22 @@ impl<F: Fn(Global, &[Symbol], Bounds, usize, StmtPart) -> Result<(StmtTree, usiz
         if sees(tokens, at, Terminal::Finally) {
             return self.finally(tokens, start, body, catches, at);
         }
-        let tree = try_node(self.alloc, place(tokens, start), body, catches)?;
-        Ok((tree, at))
+        let tree = StmtTree::Try {
+            at: place(tokens, start),
+            body,
+            catches,
+        };
+        node(self.alloc, tree, at)
     }
 
     /// A `try` [JLS 14.20].
     #[tactic(auto, unfolding(crate::specs::Reading::tried))]
-    fn tried(&self, tokens: &[Symbol], start: usize, at: usize) -> Result<(StmtTree, usize), Stop>
+    fn tried(
+        &self,
+        tokens: &[Symbol],
+        start: usize,
+        at: usize,
+    ) -> Result<(Boxed<StmtTree>, usize), Stop>
         requires { Nests self.now.bounds (F.pre self.now.nested) (F.post self.now.nested) }
         ensures { Gives result (over_nested spec.tried tokens.now self.now.bounds start (text_of tokens.now) at) }
     {
@@ -220,7 +258,7 @@ impl<F: Fn(Global, &[Symbol], Bounds, usize, StmtPart) -> Result<(StmtTree, usiz
         tokens: &[Symbol],
         start: usize,
         at: usize,
-    ) -> Result<(StmtTree, usize), Stop>
+    ) -> Result<(Boxed<StmtTree>, usize), Stop>
         requires { Nests self.now.bounds (F.pre self.now.nested) (F.post self.now.nested) }
         ensures { Gives result (over_nested spec.guarding tokens.now self.now.bounds start (text_of tokens.now) at) }
     {

@@ -2,10 +2,12 @@ ghost use Rattle.bj_grammar.specs.Given.{text_of, place_of, Gives};
 ghost use Rattle.bj_stmt.specs.Given.{over_bounds};
 ghost use Rattle.bj_stmt.specs.Reading as spec;
 
+use crate::nodes::node;
 use crate::values::{all_values, value};
 use bj_expr::Bounds;
 use bj_grammar::{Stop, Symbol, Terminal, place, sees, word};
 use bj_tree::StmtTree;
+use sqlite_items::Boxed;
 use std::alloc::Global;
 
 /// The arguments of a call of another constructor, and its semicolon.
@@ -17,7 +19,7 @@ fn called(
     start: usize,
     is_super: bool,
     at: usize,
-) -> Result<(StmtTree, usize), Stop>
+) -> Result<(Boxed<StmtTree>, usize), Stop>
     ensures { Gives result (over_bounds spec.called tokens.now bounds start is_super (text_of tokens.now) at) }
 {
     let at = word(tokens, at, Terminal::LeftParen)?;
@@ -29,7 +31,7 @@ fn called(
         is_super,
         args,
     };
-    Ok((tree, at))
+    node(alloc, tree, at)
 }
 
 /// A call of another constructor [JLS 8.8.7.1].
@@ -39,7 +41,7 @@ pub(crate) fn constructor_call(
     tokens: &[Symbol],
     bounds: Bounds,
     start: usize,
-) -> Result<(StmtTree, usize), Stop>
+) -> Result<(Boxed<StmtTree>, usize), Stop>
     ensures { Gives result (over_bounds spec.constructor_call tokens.now bounds (text_of tokens.now) start) }
 {
     if sees(tokens, start, Terminal::This) {
@@ -58,7 +60,7 @@ pub(crate) fn case_label(
     bounds: Bounds,
     start: usize,
     at: usize,
-) -> Result<(StmtTree, usize), Stop>
+) -> Result<(Boxed<StmtTree>, usize), Stop>
     ensures { Gives result (over_bounds spec.case_label tokens.now bounds start (text_of tokens.now) at) }
 {
     let at = word(tokens, at, Terminal::Case)?;
@@ -68,17 +70,18 @@ pub(crate) fn case_label(
         at: place(tokens, start),
         value,
     };
-    Ok((tree, at))
+    node(alloc, tree, at)
 }
 
 /// `default` and the colon [JLS 14.11].
 #[tactic(auto, unfolding(crate::specs::Reading::default_label))]
 pub(crate) fn default_label(
+    alloc: Global,
     tokens: &[Symbol],
     bounds: Bounds,
     start: usize,
     at: usize,
-) -> Result<(StmtTree, usize), Stop>
+) -> Result<(Boxed<StmtTree>, usize), Stop>
     ensures { Gives result (over_bounds spec.default_label tokens.now bounds start (text_of tokens.now) at) }
 {
     let at = word(tokens, at, Terminal::Default)?;
@@ -86,7 +89,7 @@ pub(crate) fn default_label(
     let tree = StmtTree::Default {
         at: place(tokens, start),
     };
-    Ok((tree, at))
+    node(alloc, tree, at)
 }
 
 /// A label of a `switch` [JLS 14.11].
@@ -96,11 +99,11 @@ pub(crate) fn label(
     tokens: &[Symbol],
     bounds: Bounds,
     start: usize,
-) -> Result<(StmtTree, usize), Stop>
+) -> Result<(Boxed<StmtTree>, usize), Stop>
     ensures { Gives result (over_bounds spec.label tokens.now bounds (text_of tokens.now) start) }
 {
     if sees(tokens, start, Terminal::Case) {
         return case_label(alloc, tokens, bounds, start, start);
     }
-    default_label(tokens, bounds, start, start)
+    default_label(alloc, tokens, bounds, start, start)
 }

@@ -6,11 +6,13 @@ ghost use Rattle.bj_stmt.specs.Grammar as grammar;
 ghost use Rattle.bj_stmt.specs.Reading as spec;
 
 use crate::names::name_at;
+use crate::nodes::node;
 use crate::values::{maybe_value, value};
 use bj_core::Span;
 use bj_expr::Bounds;
 use bj_grammar::{Stop, Symbol, Terminal, among, peek, place, sees, taken, word};
 use bj_tree::{NamedPlace, StmtTree};
+use sqlite_items::Boxed;
 use std::alloc::Global;
 
 /// A `break` or `continue` with its label.
@@ -63,13 +65,13 @@ fn jumped(
     bounds: Bounds,
     start: usize,
     at: usize,
-) -> Result<(StmtTree, usize), Stop>
+) -> Result<(Boxed<StmtTree>, usize), Stop>
     ensures { Gives result (over_nested spec.jumped tokens.now bounds start (text_of tokens.now) at) }
 {
     let (found, at) = jump_at(tokens, at)?;
     let (label, at) = maybe_name(alloc, tokens, bounds, at)?;
     let at = word(tokens, at, Terminal::Semicolon)?;
-    Ok((jump_node(found, place(tokens, start), label), at))
+    node(alloc, jump_node(found, place(tokens, start), label), at)
 }
 
 /// A `return` [JLS 14.17].
@@ -80,7 +82,7 @@ fn returned(
     bounds: Bounds,
     start: usize,
     at: usize,
-) -> Result<(StmtTree, usize), Stop>
+) -> Result<(Boxed<StmtTree>, usize), Stop>
     ensures { Gives result (over_nested spec.returned tokens.now bounds start (text_of tokens.now) at) }
 {
     let at = word(tokens, at, Terminal::Return)?;
@@ -90,7 +92,7 @@ fn returned(
         at: place(tokens, start),
         value,
     };
-    Ok((tree, at))
+    node(alloc, tree, at)
 }
 
 /// A `throw` [JLS 14.18].
@@ -101,7 +103,7 @@ fn thrown(
     bounds: Bounds,
     start: usize,
     at: usize,
-) -> Result<(StmtTree, usize), Stop>
+) -> Result<(Boxed<StmtTree>, usize), Stop>
     ensures { Gives result (over_nested spec.thrown tokens.now bounds start (text_of tokens.now) at) }
 {
     let at = word(tokens, at, Terminal::Throw)?;
@@ -111,7 +113,7 @@ fn thrown(
         at: place(tokens, start),
         value,
     };
-    Ok((tree, at))
+    node(alloc, tree, at)
 }
 
 /// A statement that goes elsewhere.
@@ -122,7 +124,7 @@ pub(crate) fn leaving(
     bounds: Bounds,
     start: usize,
     at: usize,
-) -> Result<(StmtTree, usize), Stop>
+) -> Result<(Boxed<StmtTree>, usize), Stop>
     ensures { Gives result (over_nested spec.leaving tokens.now bounds start (text_of tokens.now) at) }
 {
     if jumps(tokens, at) {

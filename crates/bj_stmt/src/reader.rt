@@ -6,6 +6,7 @@ use crate::StmtPart;
 use bj_expr::Bounds;
 use bj_grammar::{Stop, Symbol};
 use bj_tree::StmtTree;
+use sqlite_items::Boxed;
 use std::alloc::Global;
 
 /// The rules of statements, over a function that reads the parts nested in them.
@@ -19,16 +20,16 @@ pub struct Reader<F> {
     pub nested: F,
 }
 
-impl<F: Fn(Global, &[Symbol], Bounds, usize, StmtPart) -> Result<(StmtTree, usize), Stop>> Reader<
-    F,
-> {
+impl<
+    F: Fn(Global, &[Symbol], Bounds, usize, StmtPart) -> Result<(Boxed<StmtTree>, usize), Stop>,
+> Reader<F> {
     /// A nested part.
     pub(crate) fn nest(
         &self,
         tokens: &[Symbol],
         at: usize,
         part: StmtPart,
-    ) -> Result<(StmtTree, usize), Stop>
+    ) -> Result<(Boxed<StmtTree>, usize), Stop>
         requires { Nests self.now.bounds (F.pre self.now.nested) (F.post self.now.nested) }
         ensures { Gives result (spec.nested (place_of tokens.now) self.now.bounds.most self.now.bounds.room part (text_of tokens.now) at) }
     {

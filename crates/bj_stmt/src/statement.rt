@@ -6,18 +6,19 @@ use crate::StmtPart;
 use crate::evaluation::{closed, evaluate, evaluation};
 use crate::labels::{case_label, constructor_call, default_label, label};
 use crate::leaving::leaving;
-use crate::nodes::labelled_node;
+use crate::nodes::node;
 use crate::reader::Reader;
 use crate::tokens::{branches, declares, guards, is_labelled, leaves, loops};
 use crate::variables::declaration;
 use bj_expr::Bounds;
 use bj_grammar::{Stop, Symbol, Terminal, place, sees, units, word};
 use bj_tree::StmtTree;
+use sqlite_items::Boxed;
 use std::alloc::Global;
 
-impl<F: Fn(Global, &[Symbol], Bounds, usize, StmtPart) -> Result<(StmtTree, usize), Stop>> Reader<
-    F,
-> {
+impl<
+    F: Fn(Global, &[Symbol], Bounds, usize, StmtPart) -> Result<(Boxed<StmtTree>, usize), Stop>,
+> Reader<F> {
     /// A labelled statement [JLS 14.7].
     #[tactic(auto, unfolding(crate::specs::Reading::labelled))]
     fn labelled(
@@ -25,7 +26,7 @@ impl<F: Fn(Global, &[Symbol], Bounds, usize, StmtPart) -> Result<(StmtTree, usiz
         tokens: &[Symbol],
         start: usize,
         at: usize,
-    ) -> Result<(StmtTree, usize), Stop>
+    ) -> Result<(Boxed<StmtTree>, usize), Stop>
         requires { Nests self.now.bounds (F.pre self.now.nested) (F.post self.now.nested) }
         ensures { Gives result (over_nested spec.labelled tokens.now self.now.bounds start (text_of tokens.now) at) }
     {
@@ -33,13 +34,22 @@ impl<F: Fn(Global, &[Symbol], Bounds, usize, StmtPart) -> Result<(StmtTree, usiz
         let at = word(tokens, at, Terminal::Word)?;
         let at = word(tokens, at, Terminal::Colon)?;
         let (body, at) = self.nest(tokens, at, StmtPart::Statement)?;
-        let tree = labelled_node(self.alloc, place(tokens, start), label, body)?;
-        Ok((tree, at))
+        let tree = StmtTree::Labelled {
+            at: place(tokens, start),
+            label,
+            body,
+        };
+        node(self.alloc, tree, at)
     }
 
     /// `;` [JLS 14.6].
     #[tactic(auto, unfolding(crate::specs::Reading::empty))]
-    fn empty(&self, tokens: &[Symbol], start: usize, at: usize) -> Result<(StmtTree, usize), Stop>
+    fn empty(
+        &self,
+        tokens: &[Symbol],
+        start: usize,
+        at: usize,
+    ) -> Result<(Boxed<StmtTree>, usize), Stop>
         requires { Nests self.now.bounds (F.pre self.now.nested) (F.post self.now.nested) }
         ensures { Gives result (over_nested spec.empty tokens.now self.now.bounds start (text_of tokens.now) at) }
     {
@@ -47,11 +57,11 @@ impl<F: Fn(Global, &[Symbol], Bounds, usize, StmtPart) -> Result<(StmtTree, usiz
         let tree = StmtTree::Empty {
             at: place(tokens, start),
         };
-        Ok((tree, at))
+        node(self.alloc, tree, at)
     }
 
     /// A statement that begins with a keyword of its own, a label or an expression.
-    fn worded(&self, tokens: &[Symbol], start: usize) -> Result<(StmtTree, usize), Stop>
+    fn worded(&self, tokens: &[Symbol], start: usize) -> Result<(Boxed<StmtTree>, usize), Stop>
         requires { Nests self.now.bounds (F.pre self.now.nested) (F.post self.now.nested) }
         ensures { Gives result (worded_of tokens.now self.now.bounds (text_of tokens.now) start) }
     {
@@ -75,7 +85,7 @@ impl<F: Fn(Global, &[Symbol], Bounds, usize, StmtPart) -> Result<(StmtTree, usiz
 
     /// A statement that may be the body of another [JLS 14.5].
     #[tactic(auto, unfolding(crate::specs::Reading::statement))]
-    fn statement(&self, tokens: &[Symbol], start: usize) -> Result<(StmtTree, usize), Stop>
+    fn statement(&self, tokens: &[Symbol], start: usize) -> Result<(Boxed<StmtTree>, usize), Stop>
         requires { Nests self.now.bounds (F.pre self.now.nested) (F.post self.now.nested) }
         ensures { Gives result (over_nested spec.statement tokens.now self.now.bounds (text_of tokens.now) start) }
     {
@@ -90,7 +100,7 @@ impl<F: Fn(Global, &[Symbol], Bounds, usize, StmtPart) -> Result<(StmtTree, usiz
 
     /// A declaration of variables with its semicolon [JLS 14.4].
     #[tactic(auto, unfolding(crate::specs::Reading::local))]
-    fn local(&self, tokens: &[Symbol], start: usize) -> Result<(StmtTree, usize), Stop>
+    fn local(&self, tokens: &[Symbol], start: usize) -> Result<(Boxed<StmtTree>, usize), Stop>
         requires { Nests self.now.bounds (F.pre self.now.nested) (F.post self.now.nested) }
         ensures { Gives result (over_nested spec.local tokens.now self.now.bounds (text_of tokens.now) start) }
     {
@@ -100,7 +110,11 @@ impl<F: Fn(Global, &[Symbol], Bounds, usize, StmtPart) -> Result<(StmtTree, usiz
 
     /// A statement of a block [JLS 14.2].
     #[tactic(auto, unfolding(crate::specs::Reading::block_statement))]
-    fn block_statement(&self, tokens: &[Symbol], start: usize) -> Result<(StmtTree, usize), Stop>
+    fn block_statement(
+        &self,
+        tokens: &[Symbol],
+        start: usize,
+    ) -> Result<(Boxed<StmtTree>, usize), Stop>
         requires { Nests self.now.bounds (F.pre self.now.nested) (F.post self.now.nested) }
         ensures { Gives result (over_nested spec.block_statement tokens.now self.now.bounds (text_of tokens.now) start) }
     {
@@ -112,7 +126,7 @@ impl<F: Fn(Global, &[Symbol], Bounds, usize, StmtPart) -> Result<(StmtTree, usiz
 
     /// A label or a statement of a `switch` [JLS 14.11].
     #[tactic(auto, unfolding(crate::specs::Reading::member))]
-    fn member(&self, tokens: &[Symbol], start: usize) -> Result<(StmtTree, usize), Stop>
+    fn member(&self, tokens: &[Symbol], start: usize) -> Result<(Boxed<StmtTree>, usize), Stop>
         requires { Nests self.now.bounds (F.pre self.now.nested) (F.post self.now.nested) }
         ensures { Gives result (over_nested spec.member tokens.now self.now.bounds (text_of tokens.now) start) }
     {
@@ -120,7 +134,7 @@ impl<F: Fn(Global, &[Symbol], Bounds, usize, StmtPart) -> Result<(StmtTree, usiz
             return case_label(self.alloc, tokens, self.bounds, start, start);
         }
         if sees(tokens, start, Terminal::Default) {
-            return default_label(tokens, self.bounds, start, start);
+            return default_label(self.alloc, tokens, self.bounds, start, start);
         }
         self.block_statement(tokens, start)
     }
@@ -132,7 +146,7 @@ impl<F: Fn(Global, &[Symbol], Bounds, usize, StmtPart) -> Result<(StmtTree, usiz
         tokens: &[Symbol],
         at: usize,
         part: StmtPart,
-    ) -> Result<(StmtTree, usize), Stop>
+    ) -> Result<(Boxed<StmtTree>, usize), Stop>
         requires { Nests self.now.bounds (F.pre self.now.nested) (F.post self.now.nested) }
         ensures { Gives result (over_nested spec.rule tokens.now self.now.bounds part (text_of tokens.now) at) }
     {

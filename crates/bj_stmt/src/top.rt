@@ -9,6 +9,7 @@ use crate::tokens::on_line;
 use bj_expr::Bounds;
 use bj_grammar::{Stop, Symbol, out_of_turns, place};
 use bj_tree::{StmtTree, StmtTrees};
+use sqlite_items::Boxed;
 use std::alloc::Global;
 
 /// A part, in which there is room for so many nodes on the way down.
@@ -18,7 +19,7 @@ fn nested(
     bounds: Bounds,
     at: usize,
     part: StmtPart,
-) -> Result<(StmtTree, usize), Stop>
+) -> Result<(Boxed<StmtTree>, usize), Stop>
     ensures { Gives result (spec.nested (place_of tokens.now) bounds.most bounds.room part (text_of tokens.now) at) }
 {
     if bounds.room == 0 {
@@ -51,7 +52,7 @@ pub fn stmt_at(
     bounds: Bounds,
     part: StmtPart,
     at: usize,
-) -> Result<(StmtTree, usize), Stop>
+) -> Result<(Boxed<StmtTree>, usize), Stop>
     ensures { Gives result (spec.nested (place_of tokens.now) bounds.most bounds.room part (text_of tokens.now) at) }
 {
     nested(alloc, tokens, bounds, at, part)
@@ -68,7 +69,7 @@ fn next_on_line(
     ensures { Gives result (line_step tokens.now bounds found (text_of tokens.now) at) }
 {
     let (next, at) = nested(alloc, tokens, bounds, at, StmtPart::BlockStatement)?;
-    found.push(next)?;
+    found.push(next.into_inner())?;
     Ok((found, at))
 }
 

@@ -6,7 +6,7 @@ ghost use Rattle.bj_stmt.specs.Reading as spec;
 use bj_expr::{Bounds, Part, part_at};
 use bj_grammar::{Stop, Symbol, Terminal, out_of_turns, sees, word};
 use bj_tree::{ExprTree, ExprTrees};
-use sqlite_items::Items;
+use sqlite_items::{Boxed, Items};
 use std::alloc::Global;
 
 /// An expression.
@@ -16,7 +16,7 @@ pub(crate) fn value(
     tokens: &[Symbol],
     bounds: Bounds,
     at: usize,
-) -> Result<(ExprTree, usize), Stop>
+) -> Result<(Boxed<ExprTree>, usize), Stop>
     ensures { Gives result (over_bounds spec.value tokens.now bounds (text_of tokens.now) at) }
 {
     part_at(alloc, tokens, bounds, at, Part::Expression)
@@ -29,7 +29,7 @@ pub(crate) fn maybe_value(
     tokens: &[Symbol],
     bounds: Bounds,
     at: usize,
-) -> Result<(Option<ExprTree>, usize), Stop>
+) -> Result<(Option<Boxed<ExprTree>>, usize), Stop>
     ensures { Gives result (over_bounds spec.maybe_value tokens.now bounds (text_of tokens.now) at) }
 {
     if sees(tokens, at, Terminal::Semicolon) {
@@ -52,7 +52,7 @@ fn next_value(
 {
     let at = word(tokens, at, Terminal::Comma)?;
     let (next, at) = value(alloc, tokens, bounds, at)?;
-    found.push(next)?;
+    found.push(next.into_inner())?;
     Ok((found, at))
 }
 
@@ -93,6 +93,6 @@ pub(crate) fn all_values(
         return Ok((found, at));
     }
     let (first, at) = value(alloc, tokens, bounds, at)?;
-    found.push(first)?;
+    found.push(first.into_inner())?;
     more_values(alloc, tokens, bounds, found, at)
 }

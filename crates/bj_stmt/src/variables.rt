@@ -3,10 +3,12 @@ ghost use Rattle.bj_stmt.specs.Given.{over_bounds, variables_of};
 ghost use Rattle.bj_stmt.specs.Reading as spec;
 
 use crate::names::maybe_final;
+use crate::nodes::node;
 use bj_core::{JText, Seq};
 use bj_expr::{Bounds, Part, dims, part_at, type_at};
 use bj_grammar::{Stop, Symbol, Terminal, out_of_turns, place, sees, units, word};
 use bj_tree::{ExprTree, StmtTree, VariableTree, VariableTrees};
+use sqlite_items::Boxed;
 use std::alloc::Global;
 
 /// The initializer behind `=`, or nothing [JLS 8.3, 14.4].
@@ -16,7 +18,7 @@ fn maybe_init(
     tokens: &[Symbol],
     bounds: Bounds,
     at: usize,
-) -> Result<(Option<ExprTree>, usize), Stop>
+) -> Result<(Option<Boxed<ExprTree>>, usize), Stop>
     ensures { Gives result (over_bounds spec.maybe_init tokens.now bounds (text_of tokens.now) at) }
 {
     if sees(tokens, at, Terminal::Assign) {
@@ -171,7 +173,7 @@ pub(crate) fn declaration(
     tokens: &[Symbol],
     bounds: Bounds,
     start: usize,
-) -> Result<(StmtTree, usize), Stop>
+) -> Result<(Boxed<StmtTree>, usize), Stop>
     ensures { Gives result (over_bounds spec.declaration tokens.now bounds (text_of tokens.now) start) }
 {
     let (is_final, at) = maybe_final(tokens, start);
@@ -183,5 +185,5 @@ pub(crate) fn declaration(
         of,
         variables,
     };
-    Ok((tree, at))
+    node(alloc, tree, at)
 }

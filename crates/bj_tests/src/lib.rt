@@ -6,9 +6,13 @@ mod builtins;
 #[cfg(test)]
 mod cells;
 #[cfg(test)]
+mod commands;
+#[cfg(test)]
 mod ends;
 #[cfg(test)]
 mod heaps;
+#[cfg(test)]
+mod misfits;
 #[cfg(test)]
 mod operators;
 #[cfg(test)]
@@ -21,3 +25,5 @@ mod texts;
 mod tokens;
 #[cfg(test)]
 mod trees;
+#[cfg(test)]
+mod writers;

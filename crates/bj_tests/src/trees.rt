@@ -203,12 +203,12 @@ fn heights_are_the_longest_way_down(rt: HostRuntime) {
 }
 
 /// A variable with its initializer.
-fn variable(name: JText, init: Made) -> Result<VariableTree, NoMemory> {
+fn variable(alloc: Global, name: JText, init: Made) -> Result<VariableTree, NoMemory> {
     Ok(VariableTree {
         at: AT,
         name,
         dims: 0,
-        init: Some(init?),
+        init: Some(boxed(alloc, init)?),
     })
 }
 
@@ -225,7 +225,7 @@ fn plain_variable(name: JText) -> VariableTree {
 /// The list of one variable with its initializer.
 fn one_variable(alloc: Global, bytes: &[u8], init: Made) -> Result<VariableTrees, NoMemory> {
     let mut variables = Seq::new(alloc);
-    variables.push(variable(text(alloc, bytes)?, init)?)?;
+    variables.push(variable(alloc, text(alloc, bytes)?, init)?)?;
     Ok(variables)
 }
 
@@ -264,17 +264,17 @@ fn block(alloc: Global, second: MadeStmt) -> MadeStmt {
 fn choice(alloc: Global) -> MadeStmt {
     Ok(StmtTree::If {
         at: AT,
+        test: boxed(alloc, name(alloc, b"a"))?,
         body: boxed_empty(alloc)?,
-        test: name(alloc, b"a")?,
     })
 }
 
 fn choice_of_two(alloc: Global) -> MadeStmt {
     Ok(StmtTree::IfElse {
         at: AT,
+        test: boxed(alloc, name(alloc, b"a"))?,
         body: boxed_empty(alloc)?,
         other: boxed_empty(alloc)?,
-        test: name(alloc, b"a")?,
     })
 }
 
@@ -325,7 +325,7 @@ fn attempt(alloc: Global) -> MadeStmt {
 fn label(alloc: Global) -> MadeStmt {
     Ok(StmtTree::Case {
         at: AT,
-        value: one(alloc)?,
+        value: boxed(alloc, one(alloc))?,
     })
 }
 
@@ -344,8 +344,8 @@ fn labels(alloc: Global) -> Result<Items<StmtTree>, NoMemory> {
 fn switch(alloc: Global) -> MadeStmt {
     Ok(StmtTree::Switch {
         at: AT,
+        value: boxed(alloc, name(alloc, b"a"))?,
         members: labels(alloc)?,
-        value: name(alloc, b"a")?,
     })
 }
 
@@ -358,7 +358,7 @@ fn block_with_declaration(alloc: Global) -> MadeStmt {
 fn call_statement(alloc: Global) -> MadeStmt {
     Ok(StmtTree::Expression {
         at: AT,
-        value: call(alloc)?,
+        value: boxed(alloc, call(alloc))?,
     })
 }
 
@@ -533,7 +533,7 @@ fn let_line_go(_line: LineTree) {}
 
 /// A line that is an expression.
 fn expression_line(alloc: Global) -> Result<LineTree, NoMemory> {
-    Ok(LineTree::Expr(call(alloc)?))
+    Ok(LineTree::Expr(boxed(alloc, call(alloc))?))
 }
 
 /// A line of one statement.
@@ -544,7 +544,7 @@ fn statement_line(alloc: Global) -> Result<LineTree, NoMemory> {
 /// The height of the expression that a line is, or else 0, and how many statements it has.
 fn measured(line: &LineTree) -> (u32, usize) {
     match line {
-        LineTree::Expr(tree) => (height(tree), 0),
+        LineTree::Expr(tree) => (height(tree.get()), 0),
         LineTree::Stmts(trees) => (0, trees.len()),
     }
 }

@@ -141,9 +141,10 @@ impl Copies for ClassTree {
             modifiers: self.modifiers.copy(alloc)?,
             kind: self.kind,
             name: self.name.copy(alloc)?,
-            superclass: self.superclass.copy(alloc)?,
             superinterfaces: self.superinterfaces.copy(alloc)?,
             members: self.members.copy(alloc)?,
+            // Last, so that no failure before it lets it go with or without a class.
+            superclass: self.superclass.copy(alloc)?,
             end: self.end,
         })
     }

@@ -18,7 +18,7 @@ pub fn nodes(tree: &StmtTree) -> u32
         StmtTree::Block { body, .. } => one_more(all_nodes(body.as_slice())),
         StmtTree::Empty { .. } => 1,
         StmtTree::Local { variables, .. } => one_more(all_variable_nodes(variables.as_slice())),
-        StmtTree::Expression { value, .. } => one_more(expr_nodes(value)),
+        StmtTree::Expression { value, .. } => one_more(expr_nodes(value.get())),
         StmtTree::ConstructorCall { args, .. } => one_more(all_expr_nodes(args.as_slice())),
         StmtTree::If { .. }
         | StmtTree::IfElse { .. }
@@ -26,17 +26,23 @@ pub fn nodes(tree: &StmtTree) -> u32
         | StmtTree::Case { .. }
         | StmtTree::Default { .. } => choice_nodes(tree),
         StmtTree::For { .. } | StmtTree::ForEach { .. } => for_nodes(tree),
-        StmtTree::While { test, body, .. } => one_more(plus(expr_nodes(test), nodes(body.get()))),
-        StmtTree::Do { body, test, .. } => one_more(plus(nodes(body.get()), expr_nodes(test))),
+        StmtTree::While { test, body, .. } => one_more(plus(
+            expr_nodes(test.get()),
+            nodes(body.get()),
+        )),
+        StmtTree::Do { body, test, .. } => one_more(plus(
+            nodes(body.get()),
+            expr_nodes(test.get()),
+        )),
         StmtTree::Labelled { body, .. } => one_more(nodes(body.get())),
         StmtTree::Synchronized { lock, body, .. } => one_more(plus(
-            expr_nodes(lock),
+            expr_nodes(lock.get()),
             nodes(body.get()),
         )),
         StmtTree::SynchronizedClass { body, .. } => one_more(nodes(body.get())),
         StmtTree::Break { .. } | StmtTree::Continue { .. } => 1,
         StmtTree::Return { value, .. } => one_more(optional_expr_nodes(value)),
-        StmtTree::Throw { value, .. } => one_more(expr_nodes(value)),
+        StmtTree::Throw { value, .. } => one_more(expr_nodes(value.get())),
         StmtTree::Try { .. } | StmtTree::TryFinally { .. } | StmtTree::Catch { .. } => try_nodes(
             tree,
         ),
@@ -51,21 +57,24 @@ fn choice_nodes(tree: &StmtTree) -> u32
     ensures { result ≡ min (nodes_of tree.now) 4294967295 }
 {
     match tree {
-        StmtTree::If { test, body, .. } => one_more(plus(expr_nodes(test), nodes(body.get()))),
+        StmtTree::If { test, body, .. } => one_more(plus(
+            expr_nodes(test.get()),
+            nodes(body.get()),
+        )),
         StmtTree::IfElse {
             test,
             body,
             other,
             ..
         } => one_more(plus(
-            expr_nodes(test),
+            expr_nodes(test.get()),
             plus(nodes(body.get()), nodes(other.get())),
         )),
         StmtTree::Switch { value, members, .. } => one_more(plus(
-            expr_nodes(value),
+            expr_nodes(value.get()),
             all_nodes(members.as_slice()),
         )),
-        StmtTree::Case { value, .. } => one_more(expr_nodes(value)),
+        StmtTree::Case { value, .. } => one_more(expr_nodes(value.get())),
         StmtTree::Default { .. } => 1,
         _ => unreachable!(),
     }
@@ -92,7 +101,10 @@ fn for_nodes(tree: &StmtTree) -> u32
                 plus(all_expr_nodes(update.as_slice()), nodes(body.get())),
             ),
         )),
-        StmtTree::ForEach { over, body, .. } => one_more(plus(expr_nodes(over), nodes(body.get()))),
+        StmtTree::ForEach { over, body, .. } => one_more(plus(
+            expr_nodes(over.get()),
+            nodes(body.get()),
+        )),
         _ => unreachable!(),
     }
 }

@@ -240,8 +240,15 @@ impl ExprTree {
 }
 
 /// A copy of a boxed expression.
+///
+/// # Errors
+///
+/// `NoMemory` where there is no room for the copy.
 #[cycle(expr_copies)]
-fn copy_boxed_expr(alloc: Global, expr: &Boxed<ExprTree>) -> Result<Boxed<ExprTree>, NoMemory>
+pub(crate) fn copy_boxed_expr(
+    alloc: Global,
+    expr: &Boxed<ExprTree>,
+) -> Result<Boxed<ExprTree>, NoMemory>
     ensures { IfOk result (λ copied. copied ≡ expr.now) }
 {
     let copied = expr.get().copy(alloc)?;
@@ -271,12 +278,12 @@ pub(crate) fn copy_exprs(alloc: Global, exprs: &[ExprTree]) -> Result<ExprTrees,
 /// `NoMemory` where there is no room for the copy.
 pub(crate) fn copy_optional_expr(
     alloc: Global,
-    expr: &Option<ExprTree>,
-) -> Result<Option<ExprTree>, NoMemory>
+    expr: &Option<Boxed<ExprTree>>,
+) -> Result<Option<Boxed<ExprTree>>, NoMemory>
     ensures { IfOk result (λ copied. copied ≡ expr.now) }
 {
     match expr {
         None => Ok(None),
-        Some(expr) => Ok(Some(expr.copy(alloc)?)),
+        Some(expr) => Ok(Some(copy_boxed_expr(alloc, expr)?)),
     }
 }

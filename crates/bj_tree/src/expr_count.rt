@@ -5,6 +5,7 @@ ghost use Rattle.bj_tree.specs.Forms.{IsLoosest};
 
 use crate::ExprTree;
 use crate::capped::{one_more, plus};
+use sqlite_items::Boxed;
 
 /// The nodes of an expression, itself included, or 4294967295 where it has more.
 #[cycle(expr_counts)]
@@ -82,11 +83,11 @@ pub(crate) fn all_expr_nodes(trees: &[ExprTree]) -> u32
 }
 
 /// The nodes of an expression that may be missing.
-pub(crate) fn optional_expr_nodes(tree: &Option<ExprTree>) -> u32
+pub(crate) fn optional_expr_nodes(tree: &Option<Boxed<ExprTree>>) -> u32
     ensures { result ≡ min (unwrap_or (option_map nodes_of_expr tree.now) 0) 4294967295 }
 {
     match tree {
         None => 0,
-        Some(tree) => expr_nodes(tree),
+        Some(tree) => expr_nodes(tree.get()),
     }
 }

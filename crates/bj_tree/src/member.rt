@@ -146,10 +146,11 @@ impl Copies for MethodTree {
             annotations: self.annotations.copy(alloc)?,
             modifiers: self.modifiers.copy(alloc)?,
             default: self.default,
-            result: self.result.copy(alloc)?,
             name: self.name.copy(alloc)?,
             parameters: self.parameters.copy(alloc)?,
             throws: self.throws.copy(alloc)?,
+            // Last, so that no failure before them lets them go with or without a part.
+            result: self.result.copy(alloc)?,
             body: copy_body(alloc, &self.body)?,
         })
     }

@@ -14,7 +14,7 @@ pub struct VariableTree {
     /// How many pairs of brackets stand behind its name.
     pub dims: u32,
     /// Its initializer; values in braces are a tree of their own.
-    pub init: Option<ExprTree>,
+    pub init: Option<Boxed<ExprTree>>,
 }
 
 /// The variables of a declaration.
@@ -58,38 +58,38 @@ pub enum StmtTree {
     /// An expression statement [JLS 14.8].
     Expression {
         at: Span,
-        value: ExprTree,
+        value: Boxed<ExprTree>,
     },
     /// `if` without `else` [JLS 14.9.1].
     If {
         at: Span,
-        test: ExprTree,
+        test: Boxed<ExprTree>,
         body: Boxed<StmtTree>,
     },
     /// `if` with `else` [JLS 14.9.2].
     IfElse {
         at: Span,
-        test: ExprTree,
+        test: Boxed<ExprTree>,
         body: Boxed<StmtTree>,
         other: Boxed<StmtTree>,
     },
     /// `while` [JLS 14.12].
     While {
         at: Span,
-        test: ExprTree,
+        test: Boxed<ExprTree>,
         body: Boxed<StmtTree>,
     },
     /// `do` [JLS 14.13].
     Do {
         at: Span,
         body: Boxed<StmtTree>,
-        test: ExprTree,
+        test: Boxed<ExprTree>,
     },
     /// `for`: a declaration or expression statements, the condition, the updates and the body [JLS 14.14.1].
     For {
         at: Span,
         init: StmtTrees,
-        test: Option<ExprTree>,
+        test: Option<Boxed<ExprTree>>,
         update: ExprTrees,
         body: Boxed<StmtTree>,
     },
@@ -99,19 +99,19 @@ pub enum StmtTree {
         is_final: bool,
         of: TypeTree,
         name: NamedPlace,
-        over: ExprTree,
+        over: Boxed<ExprTree>,
         body: Boxed<StmtTree>,
     },
     /// `switch`, whose members are labels and statements as they stand [JLS 14.11].
     Switch {
         at: Span,
-        value: ExprTree,
+        value: Boxed<ExprTree>,
         members: StmtTrees,
     },
     /// `case`, a label of a switch [JLS 14.11].
     Case {
         at: Span,
-        value: ExprTree,
+        value: Boxed<ExprTree>,
     },
     /// `default`, a label of a switch [JLS 14.11].
     Default {
@@ -136,17 +136,17 @@ pub enum StmtTree {
     /// `return` [JLS 14.17].
     Return {
         at: Span,
-        value: Option<ExprTree>,
+        value: Option<Boxed<ExprTree>>,
     },
     /// `throw` [JLS 14.18].
     Throw {
         at: Span,
-        value: ExprTree,
+        value: Boxed<ExprTree>,
     },
     /// `synchronized` on an object [JLS 14.19].
     Synchronized {
         at: Span,
-        lock: ExprTree,
+        lock: Boxed<ExprTree>,
         body: Boxed<StmtTree>,
     },
     /// `synchronized` on a class, named before `.class` [JLS 14.19, 15.8.2].

@@ -2,14 +2,12 @@ ghost use Rattle.std.specs.Prelude.{◌≡◌, IfOk};
 ghost use Rattle.bj_tree.specs.declared.stmt.StmtTree.{out-StmtTree};
 ghost use Rattle.bj_tree.specs.Forms.{IsPlain, IsChoice, IsFor, IsHeaded, IsJump, IsTry};
 
-use crate::expr_copy::{copy_exprs, copy_optional_expr};
+use crate::expr_copy::{copy_boxed_expr, copy_exprs, copy_optional_expr};
 use crate::{StmtTree, StmtTrees};
 use bj_core::{Copies, NoMemory};
 use sqlite_items::{Boxed, Items};
 use std::alloc::Global;
 
-// Each expression is copied behind the other parts of its statement, so that none is dropped where one of these finds no
-// room.
 impl StmtTree {
     /// A copy that equals the original.
     ///
@@ -67,12 +65,12 @@ impl StmtTree {
             } => Ok(StmtTree::Local {
                 at: *at,
                 is_final: *is_final,
-                variables: variables.copy(alloc)?,
                 of: of.copy(alloc)?,
+                variables: variables.copy(alloc)?,
             }),
             StmtTree::Expression { at, value } => Ok(StmtTree::Expression {
                 at: *at,
-                value: value.copy(alloc)?,
+                value: copy_boxed_expr(alloc, value)?,
             }),
             StmtTree::ConstructorCall { at, is_super, args } => Ok(StmtTree::ConstructorCall {
                 at: *at,
@@ -92,8 +90,8 @@ impl StmtTree {
         match self {
             StmtTree::If { at, test, body } => Ok(StmtTree::If {
                 at: *at,
+                test: copy_boxed_expr(alloc, test)?,
                 body: copy_boxed_stmt(alloc, body)?,
-                test: test.copy(alloc)?,
             }),
             StmtTree::IfElse {
                 at,
@@ -102,18 +100,18 @@ impl StmtTree {
                 other,
             } => Ok(StmtTree::IfElse {
                 at: *at,
+                test: copy_boxed_expr(alloc, test)?,
                 body: copy_boxed_stmt(alloc, body)?,
                 other: copy_boxed_stmt(alloc, other)?,
-                test: test.copy(alloc)?,
             }),
             StmtTree::Switch { at, value, members } => Ok(StmtTree::Switch {
                 at: *at,
+                value: copy_boxed_expr(alloc, value)?,
                 members: copy_stmts(alloc, members.as_slice())?,
-                value: value.copy(alloc)?,
             }),
             StmtTree::Case { at, value } => Ok(StmtTree::Case {
                 at: *at,
-                value: value.copy(alloc)?,
+                value: copy_boxed_expr(alloc, value)?,
             }),
             StmtTree::Default { at } => Ok(StmtTree::Default { at: *at }),
             _ => unreachable!(),
@@ -136,9 +134,9 @@ impl StmtTree {
             } => Ok(StmtTree::For {
                 at: *at,
                 init: copy_stmts(alloc, init.as_slice())?,
+                test: copy_optional_expr(alloc, test)?,
                 update: copy_exprs(alloc, update.as_slice())?,
                 body: copy_boxed_stmt(alloc, body)?,
-                test: copy_optional_expr(alloc, test)?,
             }),
             StmtTree::ForEach {
                 at,
@@ -150,10 +148,10 @@ impl StmtTree {
             } => Ok(StmtTree::ForEach {
                 at: *at,
                 is_final: *is_final,
-                name: name.copy(alloc)?,
-                body: copy_boxed_stmt(alloc, body)?,
                 of: of.copy(alloc)?,
-                over: over.copy(alloc)?,
+                name: name.copy(alloc)?,
+                over: copy_boxed_expr(alloc, over)?,
+                body: copy_boxed_stmt(alloc, body)?,
             }),
             _ => unreachable!(),
         }
@@ -168,13 +166,13 @@ impl StmtTree {
         match self {
             StmtTree::While { at, test, body } => Ok(StmtTree::While {
                 at: *at,
+                test: copy_boxed_expr(alloc, test)?,
                 body: copy_boxed_stmt(alloc, body)?,
-                test: test.copy(alloc)?,
             }),
             StmtTree::Do { at, body, test } => Ok(StmtTree::Do {
                 at: *at,
                 body: copy_boxed_stmt(alloc, body)?,
-                test: test.copy(alloc)?,
+                test: copy_boxed_expr(alloc, test)?,
             }),
             StmtTree::Labelled { at, label, body } => Ok(StmtTree::Labelled {
                 at: *at,
@@ -183,8 +181,8 @@ impl StmtTree {
             }),
             StmtTree::Synchronized { at, lock, body } => Ok(StmtTree::Synchronized {
                 at: *at,
+                lock: copy_boxed_expr(alloc, lock)?,
                 body: copy_boxed_stmt(alloc, body)?,
-                lock: lock.copy(alloc)?,
             }),
             StmtTree::SynchronizedClass { at, class, body } => Ok(StmtTree::SynchronizedClass {
                 at: *at,
@@ -215,7 +213,7 @@ impl StmtTree {
             }),
             StmtTree::Throw { at, value } => Ok(StmtTree::Throw {
                 at: *at,
-                value: value.copy(alloc)?,
+                value: copy_boxed_expr(alloc, value)?,
             }),
             _ => unreachable!(),
         }

@@ -17,6 +17,8 @@ mod bench_tests;
 #[cfg(test)]
 mod machine_tests;
 #[cfg(test)]
+mod reply_tests;
+#[cfg(test)]
 mod test_ends;
 #[cfg(test)]
 mod tests;

@@ -19,10 +19,10 @@ bare::write_plain-returns-in_ok-write_variables-in-Local t c =
     wrote_bare (ap stmt_parts c.in-Local.is ∙ local_parts _ _ _ _)
     (then_wrote c.in_ok-write_final-in-Local.ensures (then_wrote c.in_ok-write_type-in-Local.ensures (then_wrote c.in_ok-space-in-Local.ensures c.in_ok-write_variables-in-Local.ensures)))
 
-pub bare::write_plain-returns-in_ok-write_expr-in-Expression : goal.bare::write_plain-returns-in_ok-write_expr-in-Expression
-bare::write_plain-returns-in_ok-write_expr-in-Expression t c =
+pub bare::write_plain-returns-in_ok-write_boxed-in-Expression : goal.bare::write_plain-returns-in_ok-write_boxed-in-Expression
+bare::write_plain-returns-in_ok-write_boxed-in-Expression t c =
     wrote_bare (ap stmt_parts c.in-Expression.is ∙ expression_parts _ _)
-    c.in_ok-write_expr-in-Expression.ensures
+    c.in_ok-write_boxed-in-Expression.ensures
 
 pub bare::write_plain-returns-in_ok-write_arguments-in-ConstructorCall : goal.bare::write_plain-returns-in_ok-write_arguments-in-ConstructorCall
 bare::write_plain-returns-in_ok-write_arguments-in-ConstructorCall t c =
@@ -47,7 +47,7 @@ bare::write_choice-returns-in_ok-write_braced-in-Switch t c =
 pub bare::write_choice-returns-in_ok-sign-in-Case : goal.bare::write_choice-returns-in_ok-sign-in-Case
 bare::write_choice-returns-in_ok-sign-in-Case t c =
     wrote_bare (ap stmt_parts c.in-Case.is ∙ case_parts _ _)
-    (then_wrote c.in_ok-keyword_before-in-Case.ensures (then_wrote c.in_ok-write_expr-in-Case.ensures c.in_ok-sign-in-Case.ensures))
+    (then_wrote c.in_ok-keyword_before-in-Case.ensures (then_wrote c.in_ok-write_boxed-in-Case.ensures c.in_ok-sign-in-Case.ensures))
 
 pub bare::write_choice-returns-in_ok-sign-in-Default : goal.bare::write_choice-returns-in_ok-sign-in-Default
 bare::write_choice-returns-in_ok-sign-in-Default t c =

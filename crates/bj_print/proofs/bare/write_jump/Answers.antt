@@ -19,7 +19,7 @@ returns-in_ok-write_optional_expr-in-Return c =
     wrote_bare (ap stmt_parts c.in-Return.is ∙ return_parts _ _)
     (then_wrote c.in_ok-keyword-in-Return.ensures c.in_ok-write_optional_expr-in-Return.ensures)
 
-pub returns-in_ok-write_expr-in-Throw : goal.returns-in_ok-write_expr-in-Throw
-returns-in_ok-write_expr-in-Throw c =
+pub returns-in_ok-write_boxed-in-Throw : goal.returns-in_ok-write_boxed-in-Throw
+returns-in_ok-write_boxed-in-Throw c =
     wrote_bare (ap stmt_parts c.in-Throw.is ∙ throw_parts _ _)
-    (then_wrote c.in_ok-keyword_before-in-Throw.ensures c.in_ok-write_expr-in-Throw.ensures)
+    (then_wrote c.in_ok-keyword_before-in-Throw.ensures c.in_ok-write_boxed-in-Throw.ensures)

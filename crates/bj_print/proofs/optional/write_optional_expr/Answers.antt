@@ -3,8 +3,8 @@ use Rattle.bj_print.specs.Stmts.{maybe_expr}
 use Rattle.bj_print.proofs.Writing.{then_wrote, nothing_wrote, wrote_as}
 use Rattle.bj_print.proofs.optional.write_optional_expr.Goals as goal
 
-pub returns-in_ok-write_expr : goal.returns-in_ok-write_expr
-returns-in_ok-write_expr c = wrote_as (ap maybe_expr c.in-Some.is) (then_wrote c.in_ok-space.ensures c.in_ok-write_expr.ensures)
+pub returns-in_ok-write_boxed : goal.returns-in_ok-write_boxed
+returns-in_ok-write_boxed c = wrote_as (ap maybe_expr c.in-Some.is) (then_wrote c.in_ok-space.ensures c.in_ok-write_boxed.ensures)
 
 pub returns-in_default : goal.returns-in_default
 returns-in_default c = wrote_as (ap maybe_expr c.in_default.is) nothing_wrote

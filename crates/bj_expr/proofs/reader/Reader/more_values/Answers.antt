@@ -1,4 +1,4 @@
-use Rattle.std.proofs.Common.{List, ◌∙◌, ◌+◌, ◌-◌, rules, sym, ap, arith}
+use Rattle.std.proofs.Common.{List, [], ◌∷◌, ◌++◌, ◌∙◌, ◌+◌, ◌-◌, rules, sym, ap, arith}
 use Rattle.std.proofs.lemmas.Grind.{common_steps}
 use Rattle.bj_tree.specs.declared.expr.ExprTree.{ExprTree}
 use Rattle.bj_grammar.specs.Given.{text_of, place_of}
@@ -25,7 +25,7 @@ returns-in_err-value g c =
 pub loop-turn-preserved : goal.loop-turn-preserved
 loop-turn-preserved g c =
     values_go (place_of c.args.tokens.now) c.args.self.now.bounds (nested (place_of c.args.tokens.now) c.args.self.now.bounds.most c.args.self.now.bounds.room) (text_of c.args.tokens.now) _ c.args.self.now.bounds.most c.loop-turn._turn c.loop-turn.found c.loop-turn.at c.loop-turn.invariant c.loop-turn-test.true (sym c.sees.ensures ∙ c.if-not-sees.false) c.in_ok-at.at c.in_ok-at.ensures.1 (sym c.sees-in-loop-turn.ensures ∙ c.if-sees.false) _ _ c.in_ok-value.ensures
-    ∙ ap (λ (b : List ExprTree). over_nested more_values c.args.tokens.now c.args.self.now.bounds (c.args.self.now.bounds.most - (c.loop-turn._turn + 1)) b (text_of c.args.tokens.now) c.in_ok-value.next) (sym c.in_ok-push.ensures.ok)
+    ∙ ap (λ (b : List ExprTree). over_nested more_values c.args.tokens.now c.args.self.now.bounds (c.args.self.now.bounds.most - (c.loop-turn._turn + 1)) b (text_of c.args.tokens.now) c.in_ok-value.next) (ap (λ (x : ExprTree). c.loop-turn.found ++ x ∷ []) (sym c.into_inner.ensures) ∙ sym c.in_ok-push.ensures.ok)
 
 pub returns-then-sees-2 : goal.returns-then-sees-2
 returns-then-sees-2 g c = out_fails _ c.out_of_turns.ensures (values_past (place_of c.args.tokens.now) c.args.self.now.bounds (nested (place_of c.args.tokens.now) c.args.self.now.bounds.most c.args.self.now.bounds.room) (text_of c.args.tokens.now) _ c.args.self.now.bounds.most c.loop-turn._turn c.loop-turn.found c.loop-turn.at c.loop-turn.invariant c.loop-turn-test.false (sym c.sees-2.ensures ∙ c.if-sees-2.true))

@@ -1,5 +1,5 @@
-use crate::class_tests::{Read, read_in};
-use crate::tests::{Answer, answer_for};
+use crate::classes::{Read, read_in};
+use crate::lines::{Answer, answer_for};
 use bj_core::{FaultCode, NoMemory, Seq, Span};
 use std::alloc::Global;
 use std::test::Fail;

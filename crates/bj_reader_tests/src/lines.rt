@@ -1,8 +1,8 @@
-use crate::line_of;
 use bj_core::{FaultCode, Name, NoMemory, Refusal, Seq, Span};
 use bj_expr::{Bounds, Part, part_at};
 use bj_grammar::{Stop, Symbol};
 use bj_lex::{Token, Tokens, tokens};
+use bj_parse::line_of;
 use bj_stmt::statements_at;
 use bj_tree::LineTree;
 use std::alloc::Global;

@@ -1,10 +1,10 @@
 //! What is written of tokens, worked by hand.
 
-use crate::Writer;
 use TokenKind::{CharText, Keyword, LongNumber, Number, Sign, StringText, Word};
 use bj_core::{Bytes, NoMemory};
 use bj_lex::TokenKind;
 use bj_text::{to_utf8, utf16};
+use bj_writer::Writer;
 use std::alloc::Global;
 use std::test::Fail;
 

@@ -1,4 +1,4 @@
-use crate::{
+use bj_command::{
     Command, LineFault, Lines, count_lines, drop_cr, is_quit, line_end, read_line, read_pad_line,
 };
 use std::alloc::Global;

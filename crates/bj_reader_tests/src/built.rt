@@ -1,7 +1,7 @@
 //! What is printed of trees that no text of the profile is read as: a catch of two types, and a method with `default`. Worked by hand.
 
-use crate::{print_class, print_stmt};
 use bj_core::{JText, Name, NoMemory, Seq, Span};
+use bj_print::{print_class, print_stmt};
 use bj_text::to_utf8;
 use bj_tree::{
     ClassKind, ClassTree, MemberTree, MethodTree, NamedPlace, StmtTree, TypeName, TypeTree,

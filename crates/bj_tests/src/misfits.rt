@@ -1,9 +1,9 @@
 //! What the rules say of each, worked by hand. The functions pass on what is made, and look at it by reference.
 
-use crate::{Misfit, Place, head_misfit, import_misfit, member_misfit, modifiers_misfit};
 use ClassKind::{Class, Interface};
 use ModifierKind::{Abstract, Final, Private, Protected, Public, Static, Synchronized, Volatile};
 use bj_core::{FaultCode, JText, NoMemory, Seq, Span};
+use bj_rules::{Misfit, Place, head_misfit, import_misfit, member_misfit, modifiers_misfit};
 use bj_tree::{
     AnnotationTree, AnnotationTrees, ClassKind, ConstructorTree, ExprTree, FieldTree, ImportTree,
     InitializerTree, MemberTree, MethodTree, Modifier, ModifierKind, Modifiers, NamedPlace,
@@ -423,14 +423,20 @@ fn values(alloc: Global, count: usize) -> Result<Items<ExprTree>, NoMemory> {
     Ok(made)
 }
 
-fn braces(alloc: Global, count: Option<usize>, column: u32) -> Result<Option<ExprTree>, NoMemory> {
-    match count {
-        None => Ok(None),
-        Some(count) => Ok(Some(ExprTree::Braces {
-            at: at(column),
-            values: values(alloc, count)?,
-        })),
-    }
+fn braces(
+    alloc: Global,
+    count: Option<usize>,
+    column: u32,
+) -> Result<Option<Boxed<ExprTree>>, NoMemory> {
+    let Some(count) = count else {
+        return Ok(None);
+    };
+    let values = values(alloc, count)?;
+    let tree = ExprTree::Braces {
+        at: at(column),
+        values,
+    };
+    Ok(Some(Boxed::new(alloc, tree)?))
 }
 
 fn variable(alloc: Global, count: Option<usize>, column: u32) -> Result<VariableTree, NoMemory> {

@@ -1,9 +1,9 @@
 //! Texts of Java, and what is printed of the trees that they are read as, worked by hand from the rules of the layout.
 
-use crate::{print_class, print_expr, print_stmt};
 use bj_core::{Bytes, JText, Name, NoMemory};
 use bj_lex::{Tokens, tokens};
 use bj_parse::{class_of, line_of};
+use bj_print::{print_class, print_expr, print_stmt};
 use bj_text::to_utf8;
 use bj_tree::{ClassTree, LineTree};
 use std::alloc::Global;
@@ -29,7 +29,7 @@ fn bytes_of(alloc: Global, printed: Result<JText, NoMemory>) -> Option<Bytes> {
 /// What is printed of a line: of an expression, or of the first of its statements.
 fn print_line(alloc: Global, line: &LineTree) -> Option<Bytes> {
     match line {
-        LineTree::Expr(tree) => bytes_of(alloc, print_expr(alloc, tree)),
+        LineTree::Expr(tree) => bytes_of(alloc, print_expr(alloc, tree.get())),
         LineTree::Stmts(trees) => match trees.as_slice().first() {
             Some(tree) => bytes_of(alloc, print_stmt(alloc, tree)),
             None => None,

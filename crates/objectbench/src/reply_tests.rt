@@ -1,10 +1,10 @@
-use crate::{add_value, end_text, inspection, woke_text, written_text};
 use bj_builtin::{CELL, builtin};
 use bj_core::{
     Access, Action, Answer, Bytes, Class, Done, Field, HeapLimits, Limits, Name, NoMemory, Reason,
     Seq, Span, Stmt, Ty, Val,
 };
 use bj_history::Wait;
+use bj_reply::{add_value, end_text, inspection, woke_text, written_text};
 use bj_store::{Reaction, Store};
 use sqlite_items::Items;
 use std::alloc::Global;

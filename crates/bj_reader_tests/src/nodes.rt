@@ -1,4 +1,4 @@
-use crate::tests::let_go;
+use crate::forms::let_go;
 use bj_core::Name;
 use bj_expr::node_below;
 use bj_lex::{Tokens, tokens};
@@ -10,7 +10,7 @@ use std::test::Fail;
 /// The column of the first node of a line with so many above it, and 0 where there is none.
 fn column_below(line: &LineTree, above: u16) -> u32 {
     match line {
-        LineTree::Expr(tree) => match node_below(tree, above) {
+        LineTree::Expr(tree) => match node_below(tree.get(), above) {
             Some(at) => at.column,
             None => 0,
         },

@@ -1,6 +1,6 @@
 //! What texts of Java are replied, worked by hand from the grammar.
 
-use crate::{JavaText, reading_reply};
+use bj_reading::{JavaText, reading_reply};
 use std::alloc::Global;
 use std::test::Fail;
 

@@ -1,6 +1,6 @@
-use crate::class_of;
 use bj_core::{FaultCode, Name, NoMemory, Refusal, Seq, Span};
 use bj_lex::{Tokens, tokens};
+use bj_parse::class_of;
 use bj_tree::ClassTree;
 use std::alloc::Global;
 use std::test::Fail;
