@@ -24,7 +24,6 @@ pub enum Done {
 }
 
 /// What a thread asks of the store. Each action is one atomic step.
-#[derive(Drop)]
 pub enum Action {
     /// A step point is reached.
     Point(Point),
@@ -100,6 +99,69 @@ pub enum Action {
     Raise { class: u32, message: Option<Piece> },
     /// The term is over.
     End { done: Done },
+}
+
+// Written out, so that the drop of an action is one call wherever it is let go.
+impl Drop for Action {
+    fn drop(self) {
+        match self {
+            Action::MakeArray { of: _, sizes: _ } => {}
+            Action::Concat { a: _, b: _ } => {}
+            Action::Intern { units: _ } => {}
+            Action::TextOp { op: _, values: _ } => {}
+            Action::Print { text: _, line: _ } => {}
+            Action::Raise {
+                class: _,
+                message: _,
+            } => {}
+            Action::Point(_)
+            | Action::Get { object: _, slot: _ }
+            | Action::Put {
+                object: _,
+                slot: _,
+                value: _,
+            }
+            | Action::GetStatic { class: _, slot: _ }
+            | Action::PutStatic {
+                class: _,
+                slot: _,
+                value: _,
+            }
+            | Action::GetElem {
+                object: _,
+                index: _,
+            }
+            | Action::PutElem {
+                object: _,
+                index: _,
+                value: _,
+            }
+            | Action::Length { object: _ }
+            | Action::Make { class: _ }
+            | Action::Enter { key: _ }
+            | Action::Exit { key: _ }
+            | Action::WaitBegin { object: _, ms: _ }
+            | Action::WaitEnd
+            | Action::Notify { object: _ }
+            | Action::NotifyAll { object: _ }
+            | Action::Start { object: _ }
+            | Action::Join { object: _ }
+            | Action::Interrupt { object: _ }
+            | Action::IsInterrupted { object: _ }
+            | Action::IsAlive { object: _ }
+            | Action::Interrupted
+            | Action::Current
+            | Action::ThreadName { object: _ }
+            | Action::SleepBegin { ms: _ }
+            | Action::SleepEnd
+            | Action::Yield
+            | Action::InitBegin { class: _ }
+            | Action::InitEnd { class: _, ok: _ }
+            | Action::ReadLine
+            | Action::HasLine
+            | Action::End { done: _ } => {}
+        }
+    }
 }
 
 /// What the store answers to an action.

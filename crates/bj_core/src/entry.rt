@@ -78,7 +78,6 @@ pub enum Outcome {
 }
 
 /// One step of a session.
-#[derive(Drop)]
 pub enum Entry {
     /// A thread's next action was done, with this answer.
     Act { thread: u32, answer: Answer },
@@ -98,6 +97,26 @@ pub enum Entry {
     Woke { reason: Reason },
     /// A new epoch began.
     Reset,
+}
+
+// Written out, so that the drop of an entry is one call wherever it is let go.
+impl Drop for Entry {
+    fn drop(self) {
+        match self {
+            Entry::Line { bytes: _, reply: _ } => {}
+            Entry::Landed { job: _, outcome: _ } => {}
+            Entry::Act {
+                thread: _,
+                answer: _,
+            }
+            | Entry::Pause
+            | Entry::Tick { now: _ }
+            | Entry::Taken { job: _ }
+            | Entry::Dropped { job: _, why: _ }
+            | Entry::Woke { reason: _ }
+            | Entry::Reset => {}
+        }
+    }
 }
 
 impl Copies for Verdict {

@@ -64,7 +64,6 @@ pub enum TermKind {
 }
 
 /// What a thread runs.
-#[derive(Drop)]
 pub struct Term {
     /// Why it runs.
     pub kind: TermKind,
@@ -74,6 +73,18 @@ pub struct Term {
     pub scope: Locals,
     /// The type of its value, or `Void`.
     pub gives: Ty,
+}
+
+// Written out, so that the drop of a term is one call wherever it is let go.
+impl Drop for Term {
+    fn drop(self) {
+        let Term {
+            kind: _,
+            body: _,
+            scope: _,
+            gives: _,
+        } = self;
+    }
 }
 
 impl Copies for Local {
@@ -115,9 +126,9 @@ impl Copies for Term {
     fn copy(&self, alloc: Global) -> Result<Term, NoMemory> {
         Ok(Term {
             kind: self.kind.copy(alloc)?,
-            body: self.body.copy(alloc)?,
             scope: self.scope.copy(alloc)?,
             gives: self.gives,
+            body: self.body.copy(alloc)?,
         })
     }
 }

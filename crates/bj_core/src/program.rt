@@ -66,7 +66,6 @@ pub struct Marks {
 }
 
 /// A method [JLS 8.4], or a constructor [JLS 8.8], which is named `<init>`.
-#[derive(Drop)]
 pub struct Method {
     /// Its name.
     pub name: Name,
@@ -96,11 +95,31 @@ pub struct Method {
     pub at: Span,
 }
 
+// Written out, so that the drop of a method is one call wherever it is let go.
+impl Drop for Method {
+    fn drop(self) {
+        let Method {
+            name: _,
+            takes: _,
+            params: _,
+            gives: _,
+            is_static: _,
+            is_abstract: _,
+            is_synchronized: _,
+            access: _,
+            throws: _,
+            marks: _,
+            body: _,
+            end_line: _,
+            at: _,
+        } = self;
+    }
+}
+
 /// Methods, in source order.
 pub type Methods = Seq<Method>;
 
 /// A class [JLS 8.1] or an interface [JLS 9.1].
-#[derive(Drop)]
 pub struct Class {
     /// Its name.
     pub name: Name,
@@ -124,6 +143,25 @@ pub struct Class {
     pub instance_start: Stmt,
     /// Whether it is a class of the prelude.
     pub is_prelude: bool,
+}
+
+// Written out, so that the drop of a class is one call wherever it is let go.
+impl Drop for Class {
+    fn drop(self) {
+        let Class {
+            name: _,
+            is_interface: _,
+            is_abstract: _,
+            is_final: _,
+            above: _,
+            interfaces: _,
+            fields: _,
+            methods: _,
+            static_start: _,
+            instance_start: _,
+            is_prelude: _,
+        } = self;
+    }
 }
 
 /// Classes, by number.
@@ -182,19 +220,35 @@ impl Copies for Method {
 
 impl Copies for Class {
     fn copy(&self, alloc: Global) -> Result<Class, NoMemory> {
+        let name = self.name.copy(alloc)?;
+        let interfaces = self.interfaces.copy(alloc)?;
+        let fields = self.fields.copy(alloc)?;
+        let methods = self.methods.copy(alloc)?;
+        let (static_start, instance_start) = self.copy_starts(alloc)?;
         Ok(Class {
-            name: self.name.copy(alloc)?,
+            name,
             is_interface: self.is_interface,
             is_abstract: self.is_abstract,
             is_final: self.is_final,
             above: self.above,
-            interfaces: self.interfaces.copy(alloc)?,
-            fields: self.fields.copy(alloc)?,
-            methods: self.methods.copy(alloc)?,
-            static_start: self.static_start.copy(alloc)?,
-            instance_start: self.instance_start.copy(alloc)?,
+            interfaces,
+            fields,
+            methods,
+            static_start,
+            instance_start,
             is_prelude: self.is_prelude,
         })
+    }
+}
+
+impl Class {
+    /// Copies of what runs when the class starts and when an object of it does.
+    fn copy_starts(&self, alloc: Global) -> Result<(Stmt, Stmt), NoMemory>
+        ensures { IfOk result (λ copied. copied ≡ (self.now.static_start, self.now.instance_start)) }
+    {
+        let static_start = self.static_start.copy(alloc)?;
+        let instance_start = self.instance_start.copy(alloc)?;
+        Ok((static_start, instance_start))
     }
 }
 

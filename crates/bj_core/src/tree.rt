@@ -1,4 +1,6 @@
 ghost use Rattle.std.specs.Prelude.{◌≡◌, IfOk};
+ghost use Rattle.bj_core.specs.declared.tree.Expr.{out-Expr};
+ghost use Rattle.bj_core.specs.Forms.{IsOperation, IsCall};
 
 use crate::{Const, Copies, NoMemory, Span};
 use sqlite_items::{Boxed, Items};
@@ -122,51 +124,63 @@ impl Expr {
                 slot: *slot,
             }),
             Expr::This { at } => Ok(Expr::This { at: *at }),
-            Expr::IntNegate { at, operand } => {
-                let operand = operand.get().copy(alloc)?;
-                Ok(Expr::IntNegate {
-                    at: *at,
-                    operand: Boxed::new(alloc, operand)?,
-                })
-            }
+            Expr::IntNegate { .. }
+            | Expr::IntBinary { .. }
+            | Expr::Field { .. }
+            | Expr::SetField { .. } => self.copy_operation(alloc),
+            Expr::New { .. } | Expr::Virtual { .. } => self.copy_call(alloc),
+        }
+    }
+
+    /// A copy of an operator of `int`s, of a field or of an assignment to one.
+    #[cycle(expr_copies)]
+    fn copy_operation(&self, alloc: Global) -> Result<Expr, NoMemory>
+        requires { IsOperation (out-Expr self.now) }
+        ensures { IfOk result (λ copied. copied ≡ self.now) }
+    {
+        match self {
+            Expr::IntNegate { at, operand } => Ok(Expr::IntNegate {
+                at: *at,
+                operand: copy_boxed(alloc, operand)?,
+            }),
             Expr::IntBinary {
                 at,
                 op,
                 left,
                 right,
-            } => {
-                let left = left.get().copy(alloc)?;
-                let right = right.get().copy(alloc)?;
-                Ok(Expr::IntBinary {
-                    at: *at,
-                    op: *op,
-                    left: Boxed::new(alloc, left)?,
-                    right: Boxed::new(alloc, right)?,
-                })
-            }
-            Expr::Field { at, object, slot } => {
-                let object = object.get().copy(alloc)?;
-                Ok(Expr::Field {
-                    at: *at,
-                    object: Boxed::new(alloc, object)?,
-                    slot: *slot,
-                })
-            }
+            } => Ok(Expr::IntBinary {
+                at: *at,
+                op: *op,
+                left: copy_boxed(alloc, left)?,
+                right: copy_boxed(alloc, right)?,
+            }),
+            Expr::Field { at, object, slot } => Ok(Expr::Field {
+                at: *at,
+                object: copy_boxed(alloc, object)?,
+                slot: *slot,
+            }),
             Expr::SetField {
                 at,
                 object,
                 slot,
                 value,
-            } => {
-                let object = object.get().copy(alloc)?;
-                let value = value.get().copy(alloc)?;
-                Ok(Expr::SetField {
-                    at: *at,
-                    object: Boxed::new(alloc, object)?,
-                    slot: *slot,
-                    value: Boxed::new(alloc, value)?,
-                })
-            }
+            } => Ok(Expr::SetField {
+                at: *at,
+                object: copy_boxed(alloc, object)?,
+                slot: *slot,
+                value: copy_boxed(alloc, value)?,
+            }),
+            _ => unreachable!(),
+        }
+    }
+
+    /// A copy of a new object or of a call.
+    #[cycle(expr_copies)]
+    fn copy_call(&self, alloc: Global) -> Result<Expr, NoMemory>
+        requires { IsCall (out-Expr self.now) }
+        ensures { IfOk result (λ copied. copied ≡ self.now) }
+    {
+        match self {
             Expr::New {
                 at,
                 class,
@@ -184,18 +198,25 @@ impl Expr {
                 class,
                 method,
                 args,
-            } => {
-                let object = object.get().copy(alloc)?;
-                Ok(Expr::Virtual {
-                    at: *at,
-                    object: Boxed::new(alloc, object)?,
-                    class: *class,
-                    method: *method,
-                    args: copy_exprs(alloc, args.as_slice())?,
-                })
-            }
+            } => Ok(Expr::Virtual {
+                at: *at,
+                object: copy_boxed(alloc, object)?,
+                class: *class,
+                method: *method,
+                args: copy_exprs(alloc, args.as_slice())?,
+            }),
+            _ => unreachable!(),
         }
     }
+}
+
+/// A copy of a boxed expression.
+#[cycle(expr_copies)]
+fn copy_boxed(alloc: Global, expr: &Boxed<Expr>) -> Result<Boxed<Expr>, NoMemory>
+    ensures { IfOk result (λ copied. copied ≡ expr.now) }
+{
+    let copied = expr.get().copy(alloc)?;
+    Ok(Boxed::new(alloc, copied)?)
 }
 
 #[cycle(expr_copies)]

@@ -24,7 +24,6 @@ use bj_eval::{Activation, Invocation, typed_terms_go_on};
 use std::alloc::Global;
 
 /// A Java thread, which runs a term.
-#[derive(Drop)]
 pub struct Thread {
     /// The term.
     term: Term,
@@ -34,6 +33,18 @@ pub struct Thread {
     limit: u32,
     /// Where it is.
     run: Run,
+}
+
+// Written out, so that the drop of a thread is one call wherever it is let go.
+impl Drop for Thread {
+    fn drop(self) {
+        let Thread {
+            term: _,
+            body: _,
+            limit: _,
+            run: _,
+        } = self;
+    }
 }
 
 impl Thread {

@@ -4,17 +4,37 @@ use bj_command::{
 use std::alloc::Global;
 use std::test::*;
 
+/// The answer is a blank line.
+fn is_blank(read: Result<Command, LineFault>) -> bool {
+    matches!(read, Ok(Command::Blank))
+}
+
+/// The answer is `quit`.
+fn is_end(read: Result<Command, LineFault>) -> bool {
+    matches!(read, Ok(Command::Quit))
+}
+
+/// The answer is `wait`.
+fn is_wait(read: Result<Command, LineFault>) -> bool {
+    matches!(read, Ok(Command::Wait))
+}
+
+/// The answer is a form that is not built.
+fn is_unbuilt(read: Result<Command, LineFault>) -> bool {
+    matches!(read, Ok(Command::Unbuilt))
+}
+
 /// The answer is `pad` with this text.
-fn is_pad(read: &Result<Command, LineFault>, wanted: &[u8]) -> bool {
-    match read {
+fn is_pad(read: Result<Command, LineFault>, wanted: &[u8]) -> bool {
+    match &read {
         Ok(Command::Pad { text }) => text.as_slice() == wanted,
         _ => false,
     }
 }
 
 /// The answer is `new` with this name and text.
-fn is_new(read: &Result<Command, LineFault>, wanted: (&[u8], &[u8])) -> bool {
-    match read {
+fn is_new(read: Result<Command, LineFault>, wanted: (&[u8], &[u8])) -> bool {
+    match &read {
         Ok(Command::New { name, text }) => name.as_slice() == wanted.0
             && text.as_slice() == wanted.1,
         _ => false,
@@ -22,16 +42,16 @@ fn is_new(read: &Result<Command, LineFault>, wanted: (&[u8], &[u8])) -> bool {
 }
 
 /// The answer is `call` with this text.
-fn is_call(read: &Result<Command, LineFault>, wanted: &[u8]) -> bool {
-    match read {
+fn is_call(read: Result<Command, LineFault>, wanted: &[u8]) -> bool {
+    match &read {
         Ok(Command::Call { text }) => text.as_slice() == wanted,
         _ => false,
     }
 }
 
 /// The answer is `inspect` with this name.
-fn is_inspect(read: &Result<Command, LineFault>, wanted: &[u8]) -> bool {
-    match read {
+fn is_inspect(read: Result<Command, LineFault>, wanted: &[u8]) -> bool {
+    match &read {
         Ok(Command::Inspect { name }) => name.as_slice() == wanted,
         _ => false,
     }
@@ -40,46 +60,46 @@ fn is_inspect(read: &Result<Command, LineFault>, wanted: &[u8]) -> bool {
 #[test]
 fn each_form_is_read(rt: HostRuntime) {
     let alloc = rt.alloc();
-    assert!(&rt; matches!(read_line(alloc, b""), Ok(Command::Blank)));
-    assert!(&rt; matches!(read_line(alloc, b"   "), Ok(Command::Blank)));
-    assert!(&rt; matches!(read_line(alloc, b"quit"), Ok(Command::Quit)));
-    assert!(&rt; matches!(read_line(alloc, b"  quit "), Ok(Command::Quit)));
+    assert!(&rt; is_blank(read_line(alloc, b"")));
+    assert!(&rt; is_blank(read_line(alloc, b"   ")));
+    assert!(&rt; is_end(read_line(alloc, b"quit")));
+    assert!(&rt; is_end(read_line(alloc, b"  quit ")));
     assert!(&rt; is_quit(b" quit"));
     assert!(&rt; !is_quit(b"quit x") && !is_quit(b"") && !is_quit(b"pad quit"));
-    assert!(&rt; is_pad(&read_line(alloc, b" pad  1 + 2 "), b"1 + 2 "));
+    assert!(&rt; is_pad(read_line(alloc, b" pad  1 + 2 "), b"1 + 2 "));
 }
 
 #[test]
 fn a_name_and_a_text_are_given(rt: HostRuntime) {
     let alloc = rt.alloc();
-    assert!(&rt; is_new(&read_line(alloc, b"new x Cell(5)"), (b"x", b"Cell(5)")));
+    assert!(&rt; is_new(read_line(alloc, b"new x Cell(5)"), (b"x", b"Cell(5)")));
     assert!(&rt;
         is_new(
-            &read_line(alloc, b"  new  cell  Cell( 5 ) "),
+            read_line(alloc, b"  new  cell  Cell( 5 ) "),
             (b"cell", b"Cell( 5 ) ")
         )
     );
-    assert!(&rt; is_call(&read_line(alloc, b"call  c.get() "), b"c.get() "));
-    assert!(&rt; is_inspect(&read_line(alloc, b"inspect c"), b"c"));
-    assert!(&rt; is_inspect(&read_line(alloc, b" inspect  cell "), b"cell"));
+    assert!(&rt; is_call(read_line(alloc, b"call  c.get() "), b"c.get() "));
+    assert!(&rt; is_inspect(read_line(alloc, b"inspect c"), b"c"));
+    assert!(&rt; is_inspect(read_line(alloc, b" inspect  cell "), b"cell"));
 }
 
 #[test]
 fn wait_stands_alone(rt: HostRuntime) {
     let alloc = rt.alloc();
-    assert!(&rt; matches!(read_line(alloc, b"wait"), Ok(Command::Wait)));
-    assert!(&rt; matches!(read_line(alloc, b"  wait "), Ok(Command::Wait)));
-    assert!(&rt; matches!(read_line(alloc, b"wait 5"), Ok(Command::Unbuilt)));
-    assert!(&rt; matches!(read_line(alloc, b"wait jobs"), Ok(Command::Unbuilt)));
+    assert!(&rt; is_wait(read_line(alloc, b"wait")));
+    assert!(&rt; is_wait(read_line(alloc, b"  wait ")));
+    assert!(&rt; is_unbuilt(read_line(alloc, b"wait 5")));
+    assert!(&rt; is_unbuilt(read_line(alloc, b"wait jobs")));
 }
 
 #[test]
 fn pad_reads_its_own_words(rt: HostRuntime) {
     let alloc = rt.alloc();
-    assert!(&rt; matches!(read_pad_line(alloc, b""), Ok(Command::Blank)));
-    assert!(&rt; matches!(read_pad_line(alloc, b"  "), Ok(Command::Blank)));
-    assert!(&rt; matches!(read_pad_line(alloc, b"quit"), Ok(Command::Quit)));
-    assert!(&rt; is_pad(&read_pad_line(alloc, b"pad 1 + 2"), b"1 + 2"));
+    assert!(&rt; is_blank(read_pad_line(alloc, b"")));
+    assert!(&rt; is_blank(read_pad_line(alloc, b"  ")));
+    assert!(&rt; is_end(read_pad_line(alloc, b"quit")));
+    assert!(&rt; is_pad(read_pad_line(alloc, b"pad 1 + 2"), b"1 + 2"));
     let lines: [(&[u8], usize); 7] = [
         (b"inspect", 1),
         (b"  inspect", 3),

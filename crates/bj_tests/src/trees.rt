@@ -222,22 +222,31 @@ fn plain_variable(name: JText) -> VariableTree {
     }
 }
 
+/// Variables and one more.
+fn with_variable(
+    variables: VariableTrees,
+    variable: Result<VariableTree, NoMemory>,
+) -> Result<VariableTrees, NoMemory> {
+    let mut variables = variables;
+    variables.push(variable?)?;
+    Ok(variables)
+}
+
 /// The list of one variable with its initializer.
 fn one_variable(alloc: Global, bytes: &[u8], init: Made) -> Result<VariableTrees, NoMemory> {
-    let mut variables = Seq::new(alloc);
-    variables.push(variable(alloc, text(alloc, bytes)?, init)?)?;
-    Ok(variables)
+    let name = text(alloc, bytes)?;
+    with_variable(Seq::new(alloc), variable(alloc, name, init))
 }
 
 /// `int a = 1 + 1, b;`: the declaration, two variables, and the sum with its operands.
 fn declaration(alloc: Global) -> MadeStmt {
-    let mut variables = one_variable(alloc, b"a", sum_of_ones(alloc))?;
-    variables.push(plain_variable(text(alloc, b"b")?))?;
+    let first = one_variable(alloc, b"a", sum_of_ones(alloc))?;
+    let second = plain_variable(text(alloc, b"b")?);
     Ok(StmtTree::Local {
         at: AT,
         is_final: false,
         of: int(0),
-        variables,
+        variables: with_variable(first, Ok(second))?,
     })
 }
 
@@ -252,8 +261,7 @@ fn boxed_empty(alloc: Global) -> Result<Boxed<StmtTree>, NoMemory> {
 
 /// `{ ; second }`
 fn block(alloc: Global, second: MadeStmt) -> MadeStmt {
-    let mut body = Items::new(alloc);
-    body.push(empty())?;
+    let body = with_stmt(Items::new(alloc), Ok(empty()))?;
     Ok(StmtTree::Block {
         at: AT,
         body: with_stmt(body, second)?,

@@ -1,3 +1,5 @@
+ghost use Rattle.std.specs.Prelude.{◌≡◌, IfOk};
+
 use crate::{MemberTrees, NamedPlace, NamedPlaces};
 use bj_core::{Copies, Name, NoMemory, Seq, Span};
 use std::alloc::Global;
@@ -133,19 +135,39 @@ impl Copies for ImportTree {
 
 impl Copies for ClassTree {
     fn copy(&self, alloc: Global) -> Result<ClassTree, NoMemory> {
+        let file = self.file.copy(alloc)?;
+        let name = self.name.copy(alloc)?;
+        let superinterfaces = self.superinterfaces.copy(alloc)?;
+        let (imports, annotations, modifiers, members) = self.copy_lists(alloc)?;
+        let superclass = self.superclass.copy(alloc)?;
         Ok(ClassTree {
-            file: self.file.copy(alloc)?,
-            imports: self.imports.copy(alloc)?,
+            file,
+            imports,
             at: self.at,
-            annotations: self.annotations.copy(alloc)?,
-            modifiers: self.modifiers.copy(alloc)?,
+            annotations,
+            modifiers,
             kind: self.kind,
-            name: self.name.copy(alloc)?,
-            superinterfaces: self.superinterfaces.copy(alloc)?,
-            members: self.members.copy(alloc)?,
-            // Last, so that no failure before it lets it go with or without a class.
-            superclass: self.superclass.copy(alloc)?,
+            name,
+            superclass,
+            superinterfaces,
+            members,
             end: self.end,
         })
+    }
+}
+
+impl ClassTree {
+    /// Copies of its imports, its annotations, its modifiers and its members.
+    fn copy_lists(
+        &self,
+        alloc: Global,
+    ) -> Result<(ImportTrees, AnnotationTrees, Modifiers, MemberTrees), NoMemory>
+        ensures { IfOk result (λ copied. copied ≡ (self.now.imports, self.now.annotations, self.now.modifiers, self.now.members)) }
+    {
+        let imports = self.imports.copy(alloc)?;
+        let annotations = self.annotations.copy(alloc)?;
+        let modifiers = self.modifiers.copy(alloc)?;
+        let members = self.members.copy(alloc)?;
+        Ok((imports, annotations, modifiers, members))
     }
 }

@@ -149,7 +149,7 @@ impl Copies for MethodTree {
             name: self.name.copy(alloc)?,
             parameters: self.parameters.copy(alloc)?,
             throws: self.throws.copy(alloc)?,
-            // Last, so that no failure before them lets them go with or without a part.
+            // Last: a part before the one that finds no room is let go, and an `Option` both with its value and without.
             result: self.result.copy(alloc)?,
             body: copy_body(alloc, &self.body)?,
         })
