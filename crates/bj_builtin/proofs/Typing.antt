@@ -6,11 +6,11 @@ use Rattle.bj_core.specs.declared.frame.Local.{Local}
 use Rattle.bj_core.specs.declared.frame.Term.{Term}
 use Rattle.bj_core.specs.declared.program.Class.{Class}
 use Rattle.bj_core.specs.declared.program.Method.{Method}
-use Rattle.bj_core.specs.declared.types.Span.{Span}
+use Rattle.bj_base.specs.declared.span.Span.{Span}
 use Rattle.bj_core.specs.declared.types.Ty.{Ty}
 use Rattle.bj_core.specs.declared.types.Ty.TheVariants as t
 use Rattle.bj_core.specs.declared.types.Val.TheVariants as v
-use Rattle.bj_core.specs.declared.tree.Op.TheVariants.{Add}
+use Rattle.bj_base.specs.declared.op.Op.TheVariants.{Add}
 use Rattle.bj_core.specs.declared.tree.Expr.{Expr}
 use Rattle.bj_core.specs.declared.tree.Stmt.{Stmt}
 use Rattle.bj_eval.specs.Routines.{is_constructor}

@@ -7,10 +7,10 @@
 --     int get() { return n; }
 -- }
 use Rattle.std.specs.Prelude.{ℕ, List, [], ◌∷◌, Option, Some, None, true, false, codes}
-use Rattle.bj_core.specs.declared.types.Span.{Span}
+use Rattle.bj_base.specs.declared.span.Span.{Span}
 use Rattle.bj_core.specs.declared.types.Ty.{Ty}
 use Rattle.bj_core.specs.declared.types.Ty.TheVariants as t
-use Rattle.bj_core.specs.declared.tree.Op.TheVariants.{Add}
+use Rattle.bj_base.specs.declared.op.Op.TheVariants.{Add}
 use Rattle.bj_core.specs.declared.tree.Expr.{Expr}
 use Rattle.bj_core.specs.declared.tree.Expr.TheVariants as e
 use Rattle.bj_core.specs.declared.tree.Stmt.{Stmt}

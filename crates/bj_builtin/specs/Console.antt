@@ -1,7 +1,7 @@
 -- The terms of console lines that name `Cell`: each is an expression with a value. A name stands for its slot in the
 -- term's scope.
 use Rattle.std.specs.Prelude.{ℕ, [], ◌∷◌, Some}
-use Rattle.bj_core.specs.declared.types.Span.{Span}
+use Rattle.bj_base.specs.declared.span.Span.{Span}
 use Rattle.bj_core.specs.declared.tree.Expr.{Expr}
 use Rattle.bj_core.specs.declared.tree.Expr.TheVariants as e
 use Rattle.bj_core.specs.declared.tree.Stmt.{Stmt}

@@ -4,7 +4,7 @@ ghost use Rattle.std.specs.Prelude.{◌≡◌, ◌≢◌, ℕ, [], ◌∷◌, le
 ghost use Rattle.bj_core.specs.declared.frame.Term.{Term};
 ghost use Rattle.bj_core.specs.declared.program.Class.{Class};
 ghost use Rattle.bj_core.specs.declared.program.Field.{Field};
-ghost use Rattle.bj_core.specs.declared.types.Span.{Span};
+ghost use Rattle.bj_base.specs.declared.span.Span.{Span};
 ghost use Rattle.bj_core.specs.declared.types.Ty.TheVariants as ty;
 ghost use Rattle.bj_core.specs.declared.types.Val.TheVariants as val;
 ghost use Rattle.bj_core.specs.declared.tree.Expr.{Expr};

@@ -1,6 +1,6 @@
 -- The laws of the reader of a file.
 use Rattle.std.proofs.Common.{◌≡◌, ℕ, false, refl, sym, subst, List}
-use Rattle.bj_core.specs.declared.types.Span.{Span}
+use Rattle.bj_base.specs.declared.span.Span.{Span}
 use Rattle.bj_tree.specs.declared.class.ImportTree.{ImportTree}
 use Rattle.bj_tree.specs.declared.class.ClassTree.{ClassTree}
 use Rattle.bj_tree.specs.declared.member.MemberTree.{MemberTree}

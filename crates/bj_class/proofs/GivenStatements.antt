@@ -1,6 +1,6 @@
 -- The readers of blocks keep what the laws of members ask of them.
 use Rattle.std.proofs.Common.{◌≡◌, ℕ}
-use Rattle.bj_core.specs.declared.types.Span.{Span}
+use Rattle.bj_base.specs.declared.span.Span.{Span}
 use Rattle.bj_tree.specs.declared.stmt.StmtTree.{StmtTree}
 use Rattle.bj_grammar.specs.declared.terminal.Terminal.TheVariants as t
 use Rattle.bj_grammar.specs.Terminal.{terminal}

@@ -1,7 +1,7 @@
 -- Steps that the laws of members share: a rule that ends with its tree, and one that begins with a name.
 use Rattle.std.proofs.Common.{◌≡◌, ℕ, suc, refl, sym, subst}
-use Rattle.bj_core.specs.declared.types.Span.{Span}
-use Rattle.bj_tree.specs.declared.types.NamedPlace.{NamedPlace}
+use Rattle.bj_base.specs.declared.span.Span.{Span}
+use Rattle.bj_expr_tree.specs.declared.types.NamedPlace.{NamedPlace}
 use Rattle.bj_grammar.specs.declared.terminal.Terminal.TheVariants as t
 use Rattle.bj_grammar.specs.Terminal.{terminal}
 use Rattle.bj_grammar.specs.Reader.{Text}

@@ -1,8 +1,8 @@
 -- The laws of the reader of members up to the brace that ends a class.
 use Rattle.std.proofs.Common.{◌≡◌, ℕ, ◌<◌, ◌≤◌, inl, inr, Bool, false, refl, sym, ap, ◌∙◌, subst, arith, List, [], ◌∷◌, ◌++◌, Option}
-use Rattle.bj_core.specs.declared.types.Span.{Span}
+use Rattle.bj_base.specs.declared.span.Span.{Span}
 use Rattle.bj_tree.specs.declared.member.MemberTree.{MemberTree}
-use Rattle.bj_tree.specs.declared.types.TypeTree.{TypeTree}
+use Rattle.bj_expr_tree.specs.declared.types.TypeTree.{TypeTree}
 use Rattle.bj_grammar.specs.declared.terminal.Terminal.TheVariants as t
 use Rattle.bj_grammar.specs.Terminal.{same_terminal}
 use Rattle.bj_grammar.specs.Reader.{Text}

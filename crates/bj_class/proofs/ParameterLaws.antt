@@ -1,8 +1,8 @@
 -- The laws of the readers of parameters.
 use Rattle.std.proofs.Common.{◌≡◌, ℕ, suc, ◌<◌, inl, inr, Bool, true, false, refl, sym, subst, arith, List, [], ◌∷◌, ◌++◌}
-use Rattle.bj_core.specs.declared.types.Span.{Span}
-use Rattle.bj_tree.specs.declared.types.NamedPlace.{NamedPlace}
-use Rattle.bj_tree.specs.declared.types.TypeTree.{TypeTree}
+use Rattle.bj_base.specs.declared.span.Span.{Span}
+use Rattle.bj_expr_tree.specs.declared.types.NamedPlace.{NamedPlace}
+use Rattle.bj_expr_tree.specs.declared.types.TypeTree.{TypeTree}
 use Rattle.bj_tree.specs.declared.member.ParameterTree.{ParameterTree}
 use Rattle.bj_grammar.specs.declared.terminal.Terminal.{Terminal}
 use Rattle.bj_grammar.specs.declared.terminal.Terminal.TheVariants as t

@@ -1,12 +1,12 @@
 -- Which bodies and initializers of a class are too deep: on some way down are more nodes than there is room for. They are told by their height, and by the
 -- place of a node at the end of such a way.
 use Rattle.std.specs.Prelude.{ℕ, suc, ◌<◌, ◌⊎◌, List, [], ◌∷◌, map, Option, Some, None}
-use Rattle.bj_core.specs.declared.types.Span.{Span}
+use Rattle.bj_base.specs.declared.span.Span.{Span}
 use Rattle.bj_tree.specs.declared.stmt.VariableTree.{VariableTree}
 use Rattle.bj_tree.specs.declared.stmt.StmtTree.{StmtTree}
 use Rattle.bj_tree.specs.declared.member.MemberTree.{MemberTree}
 use Rattle.bj_tree.specs.declared.member.MemberTree.TheVariants as m
-use Rattle.bj_tree.specs.Size.{most}
+use Rattle.bj_expr_tree.specs.Size.{most}
 use Rattle.bj_stmt.specs.Heights.{stmt_height, variable_height}
 use Rattle.bj_stmt.specs.Nodes.{StmtHasNode, SomeVariableHasNode}
 

@@ -1,8 +1,8 @@
 -- What the functions that read give: the rules over some tokens, and the parts of rules that are functions of their own.
 use Rattle.std.specs.Prelude.{◌≡◌, ℕ, suc, true, false, List, Result, Ok, Err}
-use Rattle.bj_core.specs.declared.types.Span.{Span}
-use Rattle.bj_lex.specs.declared.token.Token.{Token}
-use Rattle.bj_tree.specs.declared.types.NamedPlace.{NamedPlace}
+use Rattle.bj_base.specs.declared.span.Span.{Span}
+use Rattle.bj_token.specs.declared.token.Token.{Token}
+use Rattle.bj_expr_tree.specs.declared.types.NamedPlace.{NamedPlace}
 use Rattle.bj_tree.specs.declared.class.Modifier.{Modifier}
 use Rattle.bj_tree.specs.declared.class.AnnotationTree.{AnnotationTree}
 use Rattle.bj_tree.specs.declared.member.ParameterTree.{ParameterTree}

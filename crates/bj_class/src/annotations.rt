@@ -3,7 +3,7 @@ ghost use Rattle.bj_class.specs.Given.{over_most, annotations_of};
 ghost use Rattle.bj_class.specs.Reading as spec;
 
 use crate::tokens::spelled;
-use bj_core::Seq;
+use bj_base::Seq;
 use bj_expr::Bounds;
 use bj_grammar::{Stop, Symbol, Terminal, out_of_turns, place, sees, word};
 use bj_stmt::name_at;

@@ -6,7 +6,7 @@ use crate::annotations::annotations;
 use crate::modifiers::modifiers_at;
 use crate::names::maybe_names;
 use crate::prefix::Prefix;
-use bj_core::Span;
+use bj_base::Span;
 use bj_expr::Bounds;
 use bj_grammar::{Stop, Symbol, Terminal, place, sees, word};
 use bj_stmt::name_at;

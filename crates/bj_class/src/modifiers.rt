@@ -5,7 +5,7 @@ ghost use Rattle.bj_class.specs.Grammar as grammar;
 ghost use Rattle.bj_class.specs.Reading as spec;
 
 use crate::tokens::modifies;
-use bj_core::Seq;
+use bj_base::Seq;
 use bj_expr::Bounds;
 use bj_grammar::{Stop, Symbol, Terminal, out_of_turns, place, taken};
 use bj_tree::{Modifier, ModifierKind, Modifiers};

@@ -5,7 +5,7 @@ ghost use Rattle.bj_grammar.specs.Given.{text_of, Gives};
 ghost use Rattle.bj_class.specs.Given.{over_most, names_of};
 ghost use Rattle.bj_class.specs.Reading as spec;
 
-use bj_core::{NoMemory, Seq};
+use bj_base::{NoMemory, Seq};
 use bj_expr::Bounds;
 use bj_grammar::{Stop, Symbol, Terminal, out_of_turns, sees, word};
 use bj_stmt::name_at;

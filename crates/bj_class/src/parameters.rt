@@ -3,7 +3,7 @@ ghost use Rattle.bj_grammar.specs.Given.{text_of, Gives};
 ghost use Rattle.bj_class.specs.Given.{over_most, parameters_of};
 ghost use Rattle.bj_class.specs.Reading as spec;
 
-use bj_core::Seq;
+use bj_base::Seq;
 use bj_expr::{Bounds, dims, type_at};
 use bj_grammar::{Stop, Symbol, Terminal, out_of_turns, place, sees, word};
 use bj_stmt::{maybe_final, name_at};

@@ -2,7 +2,7 @@ ghost use Rattle.std.specs.Prelude.{◌≡◌, ℕ, Bool, true, false, List, Ok}
 ghost use Rattle.bj_command.specs.Words.{IsForm, IsOfPad, IsShort, form_in, form_of, is_quit};
 
 use crate::form::{Form, line_form};
-use bj_core::{Bytes, Name, NoMemory, Seq};
+use bj_base::{Bytes, Name, NoMemory, Seq};
 use std::alloc::Global;
 
 /// What a console line asks for, named after its first word.

@@ -1,6 +1,7 @@
 ghost use Rattle.std.specs.Prelude.{◌≡◌, IfOk};
 
-use crate::{Copies, JText, Key, NoMemory, Point, Sizes, Ty, Val, Vals};
+use crate::{Key, Point, Ty, Val, Vals};
+use bj_base::{Copies, JText, NoMemory, Sizes};
 use std::alloc::Global;
 
 /// A part of a text that is made.

@@ -1,6 +1,7 @@
 ghost use Rattle.std.specs.Prelude.{◌≡◌, IfOk};
 
-use crate::{Answer, Bytes, Copies, Fault, JText, Name, NoMemory, Seq};
+use crate::Answer;
+use bj_base::{Bytes, Copies, Fault, JText, Name, NoMemory, Seq};
 use std::alloc::Global;
 
 /// Why the answer of a job is dropped.

@@ -1,6 +1,7 @@
 ghost use Rattle.std.specs.Prelude.{◌≡◌, IfOk};
 
-use crate::{Copies, Name, NoMemory, Seq, Stmt, Ty, Val};
+use crate::{Stmt, Ty, Val};
+use bj_base::{Copies, Name, NoMemory, Seq};
 use std::alloc::Global;
 
 /// A local variable that is assigned.

@@ -1,6 +1,7 @@
 ghost use Rattle.std.specs.Prelude.{◌≡◌, IfOk};
 
-use crate::{Const, Copies, Ids, Name, Names, NoMemory, Seq, Span, Stmt, Ty, Tys};
+use crate::{Const, Stmt, Ty, Tys};
+use bj_base::{Copies, Ids, Name, Names, NoMemory, Seq, Span};
 use std::alloc::Global;
 
 /// The number that stands for no class and for no method: those of a term's frame.

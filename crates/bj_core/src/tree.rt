@@ -2,36 +2,10 @@ ghost use Rattle.std.specs.Prelude.{◌≡◌, IfOk};
 ghost use Rattle.bj_core.specs.declared.tree.Expr.{out-Expr};
 ghost use Rattle.bj_core.specs.Forms.{IsOperation, IsCall};
 
-use crate::{Const, Copies, NoMemory, Span};
+use crate::Const;
+use bj_base::{Copies, NoMemory, Op, Span};
 use sqlite_items::{Boxed, Items};
 use std::alloc::Global;
-
-/// The operators of integers that have two operands [JLS 15.17 to 15.19, 15.22.1].
-#[derive(Clone, Copy, Debug, PartialEq, Eq)]
-pub enum Op {
-    /// `+`
-    Add,
-    /// `-`
-    Sub,
-    /// `*`
-    Mul,
-    /// `/`
-    Div,
-    /// `%`
-    Rem,
-    /// `<<`
-    Shl,
-    /// `>>`
-    Shr,
-    /// `>>>`
-    Ushr,
-    /// `&`
-    And,
-    /// `|`
-    Or,
-    /// `^`
-    Xor,
-}
 
 /// An expression of the core tree: every name is resolved, and every conversion is written.
 #[derive(Drop)]

@@ -1,16 +1,7 @@
 ghost use Rattle.std.specs.Prelude.{◌≡◌, IfOk};
 
-use crate::{Copies, JText, NoMemory};
+use bj_base::{Copies, JText, NoMemory, Seq};
 use std::alloc::Global;
-
-/// A place in a text: a line and a column, both from 1. Columns count UTF-16 units.
-#[derive(Clone, Copy, Debug, PartialEq, Eq)]
-pub struct Span {
-    /// The line, from 1.
-    pub line: u32,
-    /// The column in UTF-16 units, from 1.
-    pub column: u32,
-}
 
 /// The element type of an array type [JLS 10.1]: a type that is no array.
 #[derive(Clone, Copy, Debug, PartialEq, Eq)]
@@ -88,6 +79,12 @@ pub enum Const {
     /// A `String`.
     Text(JText),
 }
+
+/// Types.
+pub type Tys = Seq<Ty>;
+
+/// Values.
+pub type Vals = Seq<Val>;
 
 impl Copies for Ty {
     fn copy(&self, _alloc: Global) -> Result<Ty, NoMemory> {

@@ -15,7 +15,7 @@ use Rattle.bj_core.specs.declared.program.Program.{Program}
 use Rattle.bj_core.specs.declared.action.Action.TheVariants as act
 use Rattle.bj_core.specs.declared.action.Answer.{Answer}
 use Rattle.bj_core.specs.declared.action.Answer.TheVariants as answer
-use Rattle.bj_core.specs.declared.tree.Op.{Op}
+use Rattle.bj_base.specs.declared.op.Op.{Op}
 use Rattle.bj_core.specs.declared.tree.Expr.{Expr}
 use Rattle.bj_text.specs.Arith.{int_negated}
 use Rattle.bj_eval.specs.declared.activation.Activation.{Activation}

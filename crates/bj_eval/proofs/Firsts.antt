@@ -3,7 +3,7 @@ use Rattle.std.proofs.Common.{◌≡◌, ◌≤◌, ℕ, suc, ◌-◌, ℤ, List
 use Rattle.std.specs.Prelude.{map, reverse, slice_get, option_map, if◌then◌else◌}
 use Rattle.std.proofs.lemmas.List.{reverse-append, reverse-reverse}
 use Rattle.std.proofs.lemmas.Option.{slice_get-map}
-use Rattle.bj_core.specs.declared.types.Span.{Span}
+use Rattle.bj_base.specs.declared.span.Span.{Span}
 use Rattle.bj_core.specs.declared.types.Ty.{Ty}
 use Rattle.bj_core.specs.declared.types.Ty.TheVariants as types
 use Rattle.bj_core.specs.declared.types.Val.{Val}

@@ -1,7 +1,7 @@
 -- A typed expression of `int`s has the value that it should have.
 use Rattle.std.proofs.Common.{◌≡◌, ℕ, zero, suc, ℤ, List, [], ◌∷◌, Some, None, true, refl, sym, ap, ◌∙◌, subst}
 use Rattle.std.specs.Prelude.{slice_get}
-use Rattle.bj_core.specs.declared.types.Span.{Span}
+use Rattle.bj_base.specs.declared.span.Span.{Span}
 use Rattle.bj_core.specs.declared.types.Ty.{Ty}
 use Rattle.bj_core.specs.declared.types.Ty.TheVariants as t
 use Rattle.bj_core.specs.declared.types.Val.TheVariants as v
@@ -11,8 +11,8 @@ use Rattle.bj_core.specs.declared.action.Action.TheVariants as act
 use Rattle.bj_core.specs.declared.action.Answer.{Answer}
 use Rattle.bj_core.specs.declared.action.Answer.TheVariants as answer
 use Rattle.bj_core.specs.declared.action.Done.TheVariants as done
-use Rattle.bj_core.specs.declared.tree.Op.{Op}
-use Rattle.bj_core.specs.declared.tree.Op.TheVariants.{Add, Sub, Mul, Div, Rem, Shl, Shr, Ushr, And, Or, Xor}
+use Rattle.bj_base.specs.declared.op.Op.{Op}
+use Rattle.bj_base.specs.declared.op.Op.TheVariants.{Add, Sub, Mul, Div, Rem, Shl, Shr, Ushr, And, Or, Xor}
 use Rattle.bj_core.specs.declared.tree.Expr.{Expr}
 use Rattle.bj_core.specs.declared.tree.Stmt.TheVariants.{Return}
 use Rattle.bj_text.specs.Arith.{int_result, int_negated}

@@ -1,7 +1,7 @@
 -- What lists of statements and of arguments do: a row of the tree is its list.
 use Rattle.std.proofs.Common.{◌≡◌, ℕ, List, [], ◌∷◌, refl, ap, ◌∙◌}
 use Rattle.std.specs.Prelude.{map}
-use Rattle.bj_core.specs.declared.types.Span.{Span}
+use Rattle.bj_base.specs.declared.span.Span.{Span}
 use Rattle.bj_core.specs.declared.tree.Expr.{Expr, Row_of-Expr, end_of-Expr, more_of-Expr}
 use Rattle.bj_core.specs.declared.tree.Expr.TheVariants.{New, Virtual}
 use Rattle.bj_core.specs.declared.tree.Expr.TheBlock.{shape-the_row-Expr-0, hidden-the_row-Expr-0, hidden-the_row-Expr-1, items-the_row-Expr, items_hidden-the_row-Expr-1}

@@ -1,6 +1,6 @@
 -- A typed statement that goes on with allowed answers completes, returns a value of the body's type, or throws.
 use Rattle.std.proofs.Common.{◌≡◌, List, [], ◌∷◌, Some, None, Bool, true, false, ◌⊎◌, inl, inr, refl, sym, ap, ◌∙◌, subst}
-use Rattle.bj_core.specs.declared.types.Span.{Span}
+use Rattle.bj_base.specs.declared.span.Span.{Span}
 use Rattle.bj_core.specs.declared.types.Ty.{Ty}
 use Rattle.bj_core.specs.declared.types.Ty.TheVariants as types
 use Rattle.bj_core.specs.declared.frame.Frame.{Frame}

@@ -1,6 +1,6 @@
 -- How the parts of a body are put together: what goes on with an activation and the answers that are left.
 use Rattle.std.specs.Prelude.{ℕ, ◌+◌, List, [], ◌∷◌, length, Option, None, nat_eq, if◌then◌else◌}
-use Rattle.bj_core.specs.declared.types.Span.{Span}
+use Rattle.bj_base.specs.declared.span.Span.{Span}
 use Rattle.bj_core.specs.declared.types.Val.{Val}
 use Rattle.bj_core.specs.declared.frame.Frame.{Frame}
 use Rattle.bj_core.specs.declared.program.Program.{Program}

@@ -6,7 +6,7 @@ use Rattle.bj_core.specs.declared.types.Val.TheVariants as v
 use Rattle.bj_core.specs.declared.types.Const.{Const}
 use Rattle.bj_core.specs.declared.types.Const.TheVariants as k
 use Rattle.bj_core.specs.declared.action.Action.TheVariants as act
-use Rattle.bj_core.specs.declared.tree.Op.{Op}
+use Rattle.bj_base.specs.declared.op.Op.{Op}
 use Rattle.bj_core.specs.declared.tree.Expr.{Expr, Expr-F, Row_of-Expr, end_of-Expr, more_of-Expr}
 use Rattle.bj_core.specs.declared.tree.Expr.TheVariants as e
 use Rattle.bj_text.specs.Arith.{int_result, int_negated}

@@ -1,7 +1,7 @@
 -- The forms of the core tree, without the boxes.
 use Rattle.std.specs.Prelude.{ℕ}
-use Rattle.bj_core.specs.declared.types.Span.{Span}
-use Rattle.bj_core.specs.declared.tree.Op.{Op}
+use Rattle.bj_base.specs.declared.span.Span.{Span}
+use Rattle.bj_base.specs.declared.op.Op.{Op}
 use Rattle.bj_core.specs.declared.tree.Expr.{Expr, end_of-Expr, more_of-Expr}
 use Rattle.bj_core.specs.declared.tree.Expr.TheVariants.{IntNegate', IntBinary', Field', SetField'}
 

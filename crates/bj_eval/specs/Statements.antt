@@ -1,6 +1,6 @@
 -- What a statement does: a step point where it starts, and then one case a form.
 use Rattle.std.specs.Prelude.{Option, Some, None}
-use Rattle.bj_core.specs.declared.types.Span.{Span}
+use Rattle.bj_base.specs.declared.span.Span.{Span}
 use Rattle.bj_core.specs.declared.tree.Expr.{Expr}
 use Rattle.bj_core.specs.declared.tree.Stmt.{Stmt, Row_of-Stmt, end_of-Stmt, more_of-Stmt}
 use Rattle.bj_core.specs.declared.tree.Stmt.TheVariants.{Block', Expression, Return}

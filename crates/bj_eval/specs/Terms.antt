@@ -1,6 +1,6 @@
 -- Words for the laws of terms.
 use Rattle.std.specs.Prelude.{◌≡◌, ℕ, List, [], ◌∷◌, Some, false, slice_get}
-use Rattle.bj_core.specs.declared.types.Span.{Span}
+use Rattle.bj_base.specs.declared.span.Span.{Span}
 use Rattle.bj_core.specs.declared.types.Val.{Val}
 use Rattle.bj_core.specs.declared.frame.Local.{Local}
 use Rattle.bj_core.specs.declared.frame.Term.{Term}

@@ -1,6 +1,6 @@
 -- Which trees are typed: one rule a form.
 use Rattle.std.specs.Prelude.{◌≡◌, ◌≤◌, ℕ, ℤ, List, [], ◌∷◌, length, map, slice_get, Option, Some, None, Bool, true, false}
-use Rattle.bj_core.specs.declared.types.Span.{Span}
+use Rattle.bj_base.specs.declared.span.Span.{Span}
 use Rattle.bj_core.specs.declared.types.Ty.{Ty}
 use Rattle.bj_core.specs.declared.types.Ty.TheVariants as t
 use Rattle.bj_core.specs.declared.types.Val.{Val}
@@ -12,8 +12,8 @@ use Rattle.bj_core.specs.declared.program.Class.{Class}
 use Rattle.bj_core.specs.declared.program.Field.{Field}
 use Rattle.bj_core.specs.declared.program.Method.{Method}
 use Rattle.bj_core.specs.declared.program.Program.{Program}
-use Rattle.bj_core.specs.declared.tree.Op.{Op}
-use Rattle.bj_core.specs.declared.tree.Op.TheVariants.{Div, Rem}
+use Rattle.bj_base.specs.declared.op.Op.{Op}
+use Rattle.bj_base.specs.declared.op.Op.TheVariants.{Div, Rem}
 use Rattle.bj_core.specs.declared.tree.Expr.{Expr}
 use Rattle.bj_core.specs.declared.tree.Expr.TheVariants as e
 use Rattle.bj_core.specs.declared.tree.Stmt.{Stmt}

@@ -2,7 +2,7 @@
 use Rattle.std.specs.Prelude.{ℤ, Option, Some, None}
 use Rattle.bj_core.specs.declared.types.Const.{Const}
 use Rattle.bj_core.specs.declared.types.Const.TheVariants as k
-use Rattle.bj_core.specs.declared.tree.Op.{Op}
+use Rattle.bj_base.specs.declared.op.Op.{Op}
 use Rattle.bj_core.specs.declared.tree.Expr.{Expr}
 use Rattle.bj_core.specs.declared.tree.Expr.TheVariants as e
 use Rattle.bj_text.specs.Arith.{int_result, int_negated}

@@ -13,7 +13,7 @@ ghost use Rattle.bj_core.specs.declared.program.Program.{Program};
 ghost use Rattle.bj_core.specs.declared.types.Const.TheVariants as constant;
 ghost use Rattle.bj_core.specs.declared.types.Val.{Val};
 ghost use Rattle.bj_core.specs.declared.types.Val.TheVariants as val;
-ghost use Rattle.bj_core.specs.declared.types.Span.{Span};
+ghost use Rattle.bj_base.specs.declared.span.Span.{Span};
 ghost use Rattle.bj_core.specs.declared.types.Ty.{Ty};
 ghost use Rattle.bj_core.specs.declared.types.Ty.TheVariants as ty;
 ghost use Rattle.bj_core.specs.declared.tree.Expr.{Expr};

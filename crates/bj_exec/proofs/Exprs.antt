@@ -11,7 +11,7 @@ use Rattle.bj_core.specs.declared.action.Action.TheVariants as act
 use Rattle.bj_core.specs.declared.action.Answer.{Answer}
 use Rattle.bj_core.specs.declared.action.Answer.TheVariants as answer
 use Rattle.bj_core.specs.declared.program.Program.{Program}
-use Rattle.bj_core.specs.declared.tree.Op.{Op}
+use Rattle.bj_base.specs.declared.op.Op.{Op}
 use Rattle.bj_core.specs.declared.tree.Expr.{Expr, Row_of-Expr, end_of-Expr, more_of-Expr}
 use Rattle.bj_core.specs.declared.tree.Expr.TheVariants as exp
 use Rattle.bj_text.specs.Arith.{int_result, int_negated}

@@ -1,8 +1,8 @@
 -- One rank of operators, and one level of depth, as the code reads them.
 use Rattle.std.proofs.Common.{List, ◌≡◌, ℕ, ◌-◌, ◌<◌, sym, ap, ◌∙◌, subst}
-use Rattle.bj_core.specs.declared.types.Span.{Span}
-use Rattle.bj_lex.specs.declared.token.Token.{Token}
-use Rattle.bj_tree.specs.declared.expr.ExprTree.{ExprTree}
+use Rattle.bj_base.specs.declared.span.Span.{Span}
+use Rattle.bj_token.specs.declared.token.Token.{Token}
+use Rattle.bj_expr_tree.specs.declared.expr.ExprTree.{ExprTree}
 use Rattle.bj_grammar.specs.Reader.{Text, Answer, Found, and_then}
 use Rattle.bj_grammar.specs.declared.stop.Stop.{Stop}
 use Rattle.bj_grammar.specs.Given.{IsDeepAt, Fails, place_of}

@@ -1,8 +1,8 @@
 -- What the laws of the rules share: choices by a truth value, readers that give the same, limits, and what may stand behind a part.
 use Rattle.std.proofs.Common.{◌≡◌, ℕ, zero, suc, ◌<◌, ◌≤◌, inl, Bool, true, false, cond, refl, sym, ap, ◌∙◌, subst, arith, List, [], ◌∷◌, Option, None, Some}
 use Rattle.std.specs.Prelude.{Contains}
-use Rattle.bj_core.specs.declared.types.Span.{Span}
-use Rattle.bj_tree.specs.declared.expr.ExprTree.{ExprTree}
+use Rattle.bj_base.specs.declared.span.Span.{Span}
+use Rattle.bj_expr_tree.specs.declared.expr.ExprTree.{ExprTree}
 use Rattle.bj_expr.specs.declared.part.Part.{Part}
 use Rattle.bj_expr.specs.declared.part.Part.TheVariants as part
 use Rattle.bj_grammar.specs.declared.terminal.Terminal.{Terminal}

@@ -1,17 +1,17 @@
 -- The nodes of each form.
 use Rattle.std.proofs.Common.{◌≡◌, ℕ, zero, suc, ◌+◌, ◌<◌, List, [], ◌∷◌, ◌++◌, map, take, get_or, length, Option, None, Some, refl, sym, ap, ◌∙◌, arith}
 use Rattle.std.proofs.lemmas.List.{take_more}
-use Rattle.bj_core.specs.declared.types.Span.{Span}
-use Rattle.bj_tree.specs.declared.types.TypeTree.{TypeTree}
-use Rattle.bj_tree.specs.declared.expr.LiteralKind.{LiteralKind}
-use Rattle.bj_tree.specs.declared.expr.StepOp.{StepOp}
-use Rattle.bj_tree.specs.declared.expr.UnaryOp.{UnaryOp}
-use Rattle.bj_tree.specs.declared.expr.AssignOp.{AssignOp}
-use Rattle.bj_tree.specs.declared.expr.BinaryOp.{BinaryOp}
-use Rattle.bj_tree.specs.declared.expr.ExprTree.{ExprTree}
-use Rattle.bj_tree.specs.declared.expr.ExprTree.TheVariants as tree
-use Rattle.bj_tree.specs.declared.expr.ExprTree.TheOpen.{ExprTree-F}
-use Rattle.bj_tree.specs.declared.expr.ExprTree.TheFolds.{fold-roll-ExprTree}
+use Rattle.bj_base.specs.declared.span.Span.{Span}
+use Rattle.bj_expr_tree.specs.declared.types.TypeTree.{TypeTree}
+use Rattle.bj_expr_tree.specs.declared.expr.LiteralKind.{LiteralKind}
+use Rattle.bj_expr_tree.specs.declared.expr.StepOp.{StepOp}
+use Rattle.bj_expr_tree.specs.declared.expr.UnaryOp.{UnaryOp}
+use Rattle.bj_expr_tree.specs.declared.expr.AssignOp.{AssignOp}
+use Rattle.bj_expr_tree.specs.declared.expr.BinaryOp.{BinaryOp}
+use Rattle.bj_expr_tree.specs.declared.expr.ExprTree.{ExprTree}
+use Rattle.bj_expr_tree.specs.declared.expr.ExprTree.TheVariants as tree
+use Rattle.bj_expr_tree.specs.declared.expr.ExprTree.TheOpen.{ExprTree-F}
+use Rattle.bj_expr_tree.specs.declared.expr.ExprTree.TheFolds.{fold-roll-ExprTree}
 use Rattle.bj_expr.specs.Nodes.{all_beside, nodes_form, nodes_at, first}
 
 pub literal_below : (at : Span) (kind : LiteralKind) (text : List ℕ) (n : ℕ) → nodes_at (tree.Literal at kind text) (suc n) ≡ []

@@ -2,12 +2,12 @@
 use Rattle.std.proofs.Common.{◌≡◌, ℕ, zero, suc, ◌<◌, ◌≤◌, inl, inr, List, [], ◌∷◌, ◌++◌, map, None, refl, sym, ap, ◌∙◌, subst, arith}
 use Rattle.std.proofs.lemmas.Bool.{cases_lt}
 use Rattle.std.specs.Prelude.{max, Contains}
-use Rattle.bj_core.specs.declared.types.Span.{Span}
-use Rattle.bj_tree.specs.declared.expr.ExprTree.{ExprTree, roll-ExprTree, map-ExprTree, ind-ExprTree}
-use Rattle.bj_tree.specs.declared.expr.ExprTree.TheVariants as tree
-use Rattle.bj_tree.specs.declared.expr.ExprTree.TheOpen.{ExprTree-F}
-use Rattle.bj_tree.specs.Size.{most, height_of}
-use Rattle.bj_tree.proofs.Heights.{literal_height, this_height, paren_height, name_height, field_height, superfield_height, call_height, methodcall_height, supercall_height, index_height, new_height, newarray_height, newvalues_height, braces_height, postfix_height, prefix_height, unary_height, cast_height, binary_height, instanceof_height, conditional_height, assign_height}
+use Rattle.bj_base.specs.declared.span.Span.{Span}
+use Rattle.bj_expr_tree.specs.declared.expr.ExprTree.{ExprTree, roll-ExprTree, map-ExprTree, ind-ExprTree}
+use Rattle.bj_expr_tree.specs.declared.expr.ExprTree.TheVariants as tree
+use Rattle.bj_expr_tree.specs.declared.expr.ExprTree.TheOpen.{ExprTree-F}
+use Rattle.bj_expr_tree.specs.Size.{most, height_of}
+use Rattle.bj_expr_tree.proofs.Heights.{literal_height, this_height, paren_height, name_height, field_height, superfield_height, call_height, methodcall_height, supercall_height, index_height, new_height, newarray_height, newvalues_height, braces_height, postfix_height, prefix_height, unary_height, cast_height, binary_height, instanceof_height, conditional_height, assign_height}
 use Rattle.bj_expr.specs.Nodes.{leaf, beside, all_beside, nodes_at, HasNode, first}
 use Rattle.bj_expr.proofs.NodeForms.{literal_root, literal_below, this_root, this_below, paren_root, paren_below, name_root, name_below, field_root, field_below, superfield_root, superfield_below, call_root, call_below, methodcall_root, methodcall_below, supercall_root, supercall_below, index_root, index_below, new_root, new_below, newarray_root, newarray_below, newvalues_root, newvalues_below, braces_root, braces_below, postfix_root, postfix_below, prefix_root, prefix_below, unary_root, unary_below, cast_root, cast_below, binary_root, binary_below, instanceof_root, instanceof_below, conditional_root, conditional_below, assign_root, assign_below}
 

@@ -2,14 +2,14 @@
 use Rattle.std.proofs.Common.{◌≡◌, ℕ, suc, ◌≤◌, List, [], ◌∷◌, ◌++◌, map, sym, ap, ◌∙◌, subst, arith, append_assoc, append-nil}
 use Rattle.std.specs.Prelude.{Contains}
 use Rattle.std.proofs.lemmas.List.Elements.{Contains-append_left, Contains-append_right}
-use Rattle.bj_core.specs.declared.types.Span.{Span}
-use Rattle.bj_tree.specs.declared.types.TypeTree.{TypeTree}
-use Rattle.bj_tree.specs.declared.expr.StepOp.{StepOp}
-use Rattle.bj_tree.specs.declared.expr.UnaryOp.{UnaryOp}
-use Rattle.bj_tree.specs.declared.expr.BinaryOp.{BinaryOp}
-use Rattle.bj_tree.specs.declared.expr.AssignOp.{AssignOp}
-use Rattle.bj_tree.specs.declared.expr.ExprTree.{ExprTree}
-use Rattle.bj_tree.specs.declared.expr.ExprTree.TheVariants as tree
+use Rattle.bj_base.specs.declared.span.Span.{Span}
+use Rattle.bj_expr_tree.specs.declared.types.TypeTree.{TypeTree}
+use Rattle.bj_expr_tree.specs.declared.expr.StepOp.{StepOp}
+use Rattle.bj_expr_tree.specs.declared.expr.UnaryOp.{UnaryOp}
+use Rattle.bj_expr_tree.specs.declared.expr.BinaryOp.{BinaryOp}
+use Rattle.bj_expr_tree.specs.declared.expr.AssignOp.{AssignOp}
+use Rattle.bj_expr_tree.specs.declared.expr.ExprTree.{ExprTree}
+use Rattle.bj_expr_tree.specs.declared.expr.ExprTree.TheVariants as tree
 use Rattle.bj_expr.specs.Nodes.{all_beside, nodes_at, HasNode}
 use Rattle.bj_expr.proofs.NodeForms as forms
 

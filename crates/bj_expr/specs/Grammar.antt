@@ -1,23 +1,23 @@
 -- The grammar of types, expressions and initializers [JLS 4, 10.6, 15]: which tree stands in a text from a place up to another. Each constructor is a production.
 -- Trees name their places by `place`, which gives where the token at each place of the text stands.
 use Rattle.std.specs.Prelude.{◌≡◌, ℕ, zero, suc, min, Bool, true, false, List, [], ◌∷◌, ◌++◌}
-use Rattle.bj_core.specs.declared.types.Span.{Span}
-use Rattle.bj_lex.specs.declared.token.Token.{Token}
-use Rattle.bj_tree.specs.declared.types.TypeName.{TypeName}
-use Rattle.bj_tree.specs.declared.types.TypeName.TheVariants as names
-use Rattle.bj_tree.specs.declared.types.TypeTree.{TypeTree}
-use Rattle.bj_tree.specs.declared.expr.LiteralKind.{LiteralKind}
-use Rattle.bj_tree.specs.declared.expr.LiteralKind.TheVariants as literals
-use Rattle.bj_tree.specs.declared.expr.UnaryOp.{UnaryOp}
-use Rattle.bj_tree.specs.declared.expr.UnaryOp.TheVariants as unaries
-use Rattle.bj_tree.specs.declared.expr.AssignOp.{AssignOp}
-use Rattle.bj_tree.specs.declared.expr.AssignOp.TheVariants as assignments
-use Rattle.bj_tree.specs.declared.expr.StepOp.{StepOp}
-use Rattle.bj_tree.specs.declared.expr.StepOp.TheVariants as steps
-use Rattle.bj_tree.specs.declared.expr.BinaryOp.{BinaryOp}
-use Rattle.bj_tree.specs.declared.expr.BinaryOp.TheVariants as binaries
-use Rattle.bj_tree.specs.declared.expr.ExprTree.{ExprTree, NewArray'}
-use Rattle.bj_tree.specs.declared.expr.ExprTree.TheVariants as e
+use Rattle.bj_base.specs.declared.span.Span.{Span}
+use Rattle.bj_token.specs.declared.token.Token.{Token}
+use Rattle.bj_expr_tree.specs.declared.types.TypeName.{TypeName}
+use Rattle.bj_expr_tree.specs.declared.types.TypeName.TheVariants as names
+use Rattle.bj_expr_tree.specs.declared.types.TypeTree.{TypeTree}
+use Rattle.bj_expr_tree.specs.declared.expr.LiteralKind.{LiteralKind}
+use Rattle.bj_expr_tree.specs.declared.expr.LiteralKind.TheVariants as literals
+use Rattle.bj_expr_tree.specs.declared.expr.UnaryOp.{UnaryOp}
+use Rattle.bj_expr_tree.specs.declared.expr.UnaryOp.TheVariants as unaries
+use Rattle.bj_expr_tree.specs.declared.expr.AssignOp.{AssignOp}
+use Rattle.bj_expr_tree.specs.declared.expr.AssignOp.TheVariants as assignments
+use Rattle.bj_expr_tree.specs.declared.expr.StepOp.{StepOp}
+use Rattle.bj_expr_tree.specs.declared.expr.StepOp.TheVariants as steps
+use Rattle.bj_expr_tree.specs.declared.expr.BinaryOp.{BinaryOp}
+use Rattle.bj_expr_tree.specs.declared.expr.BinaryOp.TheVariants as binaries
+use Rattle.bj_expr_tree.specs.declared.expr.ExprTree.{ExprTree, NewArray'}
+use Rattle.bj_expr_tree.specs.declared.expr.ExprTree.TheVariants as e
 use Rattle.bj_grammar.specs.declared.terminal.Terminal.{Terminal}
 use Rattle.bj_grammar.specs.declared.terminal.Terminal.TheVariants as t
 use Rattle.bj_grammar.specs.Terminal.{terminal, among}

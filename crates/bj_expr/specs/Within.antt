@@ -1,7 +1,7 @@
 -- What stands where as a part, what may follow it, and what reading it promises.
 use Rattle.std.specs.Prelude.{ℕ}
-use Rattle.bj_core.specs.declared.types.Span.{Span}
-use Rattle.bj_tree.specs.declared.expr.ExprTree.{ExprTree}
+use Rattle.bj_base.specs.declared.span.Span.{Span}
+use Rattle.bj_expr_tree.specs.declared.expr.ExprTree.{ExprTree}
 use Rattle.bj_expr.specs.declared.part.Part.{Part}
 use Rattle.bj_expr.specs.declared.part.Part.TheVariants as part
 use Rattle.bj_grammar.specs.Reader.{Text}

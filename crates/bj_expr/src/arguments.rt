@@ -4,8 +4,8 @@ ghost use Rattle.bj_expr.specs.Given.{Nests, over_nested, commas_of};
 
 use crate::reader::Reader;
 use crate::{Bounds, Part};
+use bj_expr_tree::{ExprTree, ExprTrees};
 use bj_grammar::{Stop, Symbol, Terminal, out_of_turns, sees, word};
-use bj_tree::{ExprTree, ExprTrees};
 use sqlite_items::{Boxed, Items};
 use std::alloc::Global;
 

@@ -10,9 +10,9 @@ use crate::reader::Reader;
 use crate::sets::type_word_at;
 use crate::types::{element_type, pairs};
 use crate::{Bounds, Part};
-use bj_core::JText;
+use bj_base::JText;
+use bj_expr_tree::{ExprTree, ExprTrees};
 use bj_grammar::{Stop, Symbol, Terminal, out_of_turns, place, sees, units, word};
-use bj_tree::{ExprTree, ExprTrees};
 use sqlite_items::{Boxed, Items};
 use std::alloc::Global;
 

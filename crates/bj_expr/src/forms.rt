@@ -4,7 +4,7 @@ ghost use Rattle.bj_expr.specs.Reading as spec;
 
 use crate::Part;
 use crate::types::is_plain_primitive;
-use bj_tree::{ExprTree, TypeTree};
+use bj_expr_tree::{ExprTree, TypeTree};
 
 /// Whether the root of a tree is no operator of lower rank than the unary ones.
 pub fn is_unary(tree: &ExprTree) -> bool

@@ -4,15 +4,15 @@ ghost use Rattle.bj_expr.specs.Grammar as grammar;
 ghost use Rattle.bj_expr.specs.Reading as spec;
 ghost use Rattle.bj_grammar.specs.Given.{text_of, place_of, Gives};
 ghost use Rattle.bj_expr.specs.Given.{Nests, over_nested, part_of, operations_of};
-ghost use Rattle.bj_tree.specs.declared.expr.ExprTree.TheVariants as trees;
+ghost use Rattle.bj_expr_tree.specs.declared.expr.ExprTree.TheVariants as trees;
 
 use crate::operators::binary_op;
 use crate::reader::Reader;
 use crate::sets::{goes_on, is_relational, op_at};
 use crate::types::type_at;
 use crate::{Bounds, Part};
+use bj_expr_tree::ExprTree;
 use bj_grammar::{Stop, Symbol, Terminal, out_of_turns, place, sees, word};
-use bj_tree::ExprTree;
 use sqlite_items::Boxed;
 use std::alloc::Global;
 

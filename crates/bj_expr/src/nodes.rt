@@ -1,9 +1,9 @@
 ghost use Rattle.std.specs.Prelude.{◌≡◌, suc, map, [], ◌∷◌};
-ghost use Rattle.bj_tree.specs.declared.expr.ExprTree.{out-ExprTree};
+ghost use Rattle.bj_expr_tree.specs.declared.expr.ExprTree.{out-ExprTree};
 ghost use Rattle.bj_expr.specs.Nodes.{nodes_at, all_beside, first, HasBranches};
 
-use bj_core::Span;
-use bj_tree::ExprTree;
+use bj_base::Span;
+use bj_expr_tree::ExprTree;
 
 /// Where the first node of an expression stands that has so many above it, if there is one. Nodes are met from left to right, and none
 /// that is deeper. It takes no memory.

@@ -1,8 +1,8 @@
 ghost use Rattle.std.specs.Prelude.{◌≡◌};
 ghost use Rattle.bj_expr.specs.Grammar as grammar;
 
+use bj_expr_tree::{AssignOp, BinaryOp, LiteralKind, StepOp, UnaryOp};
 use bj_grammar::Terminal;
-use bj_tree::{AssignOp, BinaryOp, LiteralKind, StepOp, UnaryOp};
 
 /// The operator between two operands that a terminal is.
 pub fn binary_op(terminal: Terminal) -> BinaryOp

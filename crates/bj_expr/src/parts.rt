@@ -3,8 +3,8 @@ ghost use Rattle.bj_expr.specs.Given.{part_of};
 
 use crate::reader::Reader;
 use crate::{Bounds, Part};
+use bj_expr_tree::ExprTree;
 use bj_grammar::{Stop, Symbol, place};
-use bj_tree::ExprTree;
 use sqlite_items::Boxed;
 use std::alloc::Global;
 

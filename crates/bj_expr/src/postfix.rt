@@ -6,8 +6,8 @@ use crate::operators::step_op;
 use crate::reader::Reader;
 use crate::sets::{is_step, step_at};
 use crate::{Bounds, Part};
+use bj_expr_tree::ExprTree;
 use bj_grammar::{Stop, Symbol, out_of_turns, place};
-use bj_tree::ExprTree;
 use sqlite_items::Boxed;
 use std::alloc::Global;
 

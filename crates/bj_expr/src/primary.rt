@@ -6,9 +6,9 @@ use crate::operators::literal_kind;
 use crate::reader::Reader;
 use crate::sets::{is_literal, literal_at};
 use crate::{Bounds, Part};
-use bj_core::JText;
+use bj_base::JText;
+use bj_expr_tree::ExprTree;
 use bj_grammar::{Stop, Symbol, Terminal, place, sees, units, word};
-use bj_tree::ExprTree;
 use sqlite_items::Boxed;
 use std::alloc::Global;
 

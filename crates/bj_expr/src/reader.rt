@@ -5,8 +5,8 @@ ghost use Rattle.bj_expr.specs.Given.{Nests, part_of};
 
 use crate::nodes::node_below;
 use crate::{Bounds, Part};
+use bj_expr_tree::ExprTree;
 use bj_grammar::{Stop, Symbol};
-use bj_tree::ExprTree;
 use sqlite_items::Boxed;
 use std::alloc::Global;
 

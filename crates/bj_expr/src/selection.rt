@@ -4,15 +4,15 @@ ghost use Rattle.bj_expr.specs.declared.part.Part.TheVariants as part;
 ghost use Rattle.bj_expr.specs.Reading as spec;
 ghost use Rattle.bj_grammar.specs.Given.{text_of, place_of, Gives};
 ghost use Rattle.bj_expr.specs.Given.{Nests, over_nested, part_of, selections_of};
-ghost use Rattle.bj_tree.specs.declared.expr.ExprTree.TheVariants as trees;
+ghost use Rattle.bj_expr_tree.specs.declared.expr.ExprTree.TheVariants as trees;
 
 use crate::forms::is_new_array;
 use crate::reader::Reader;
 use crate::sets::is_selector;
 use crate::{Bounds, Part};
-use bj_core::JText;
+use bj_base::JText;
+use bj_expr_tree::ExprTree;
 use bj_grammar::{Stop, Symbol, Terminal, out_of_turns, place, sees, units, word};
-use bj_tree::ExprTree;
 use sqlite_items::Boxed;
 use std::alloc::Global;
 

@@ -4,9 +4,9 @@ ghost use Rattle.bj_expr.specs.Reading as spec;
 ghost use Rattle.bj_grammar.specs.Given.{text_of, place_of, Gives};
 
 use crate::sets::{begins_plain, is_primitive, type_word_at};
-use bj_core::{JText, NoMemory};
+use bj_base::{JText, NoMemory};
+use bj_expr_tree::{TypeName, TypeTree};
 use bj_grammar::{Stop, Symbol, Terminal, out_of_turns, peek, place, sees, units, word};
-use bj_tree::{TypeName, TypeTree};
 use std::alloc::Global;
 
 /// One pair of brackets more.

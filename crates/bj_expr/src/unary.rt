@@ -8,8 +8,8 @@ use crate::reader::Reader;
 use crate::sets::{is_least, is_negation, is_step, least_at, negation_at, step_at};
 use crate::types::{is_cast, type_at};
 use crate::{Bounds, Part};
+use bj_expr_tree::{ExprTree, UnaryOp};
 use bj_grammar::{Stop, Symbol, Terminal, place, sees, units, word};
-use bj_tree::{ExprTree, UnaryOp};
 use sqlite_items::Boxed;
 use std::alloc::Global;
 

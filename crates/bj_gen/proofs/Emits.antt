@@ -3,7 +3,7 @@ use Rattle.std.proofs.Common.{◌≡◌, ℕ, suc, ◌+◌, ◌<◌, max, take, 
 use Rattle.std.specs.Prelude.{Result, Ok, Err, OnOk, IfOk}
 use Rattle.std.proofs.lemmas.List.{length-take-le}
 use Rattle.std.proofs.Math.Seq.{take-suc}
-use Rattle.bj_core.specs.declared.types.Span.{Span}
+use Rattle.bj_base.specs.declared.span.Span.{Span}
 use Rattle.bj_core.specs.declared.program.Program.{Program}
 use Rattle.bj_core.specs.declared.tree.Expr.{Expr}
 use Rattle.bj_core.specs.declared.tree.Stmt.{Stmt}

@@ -4,11 +4,11 @@ use Rattle.std.proofs.lemmas.Bool.{eq-eqb, ne_eqb, cases_lt}
 use denote.Enum.Bare.{same_true, true_same}
 use lib.Dec.{eqb}
 use Rattle.bj_grammar.specs.declared.terminal.Terminal.{Terminal}
-use Rattle.bj_lex.specs.declared.token.Token.{Token}
+use Rattle.bj_token.specs.declared.token.Token.{Token}
 use Rattle.bj_grammar.specs.Terminal.{terminal, same_terminal}
 use Rattle.bj_grammar.proofs.Terminals.{make, made, is_token}
 use Rattle.bj_grammar.specs.contracts.terminal.Terminal.{the_type}
-use Rattle.bj_core.specs.declared.types.Span.{Span}
+use Rattle.bj_base.specs.declared.span.Span.{Span}
 use Rattle.bj_grammar.specs.Reader.{Text, Answer, Found, Wrong, Over, Parser, and_then, ◌>>=◌, pure, over, unless_deep, nowhere, here, operator, word, ahead, choose, loop}
 
 pub kind_is : (a b : Terminal) → same_terminal a b ≡ true → a ≡ b

@@ -1,9 +1,9 @@
 -- A token of each terminal.
 use Rattle.std.proofs.Common.{◌≡◌, Bool, true, false, List, ℕ, refl}
 use lib.Chars.{codes}
-use Rattle.bj_lex.specs.declared.token.TokenKind.{TokenKind}
-use Rattle.bj_lex.specs.declared.token.TokenKind.TheVariants as kinds
-use Rattle.bj_lex.specs.declared.token.Token.{Token}
+use Rattle.bj_token.specs.declared.token.TokenKind.{TokenKind}
+use Rattle.bj_token.specs.declared.token.TokenKind.TheVariants as kinds
+use Rattle.bj_token.specs.declared.token.Token.{Token}
 use Rattle.bj_grammar.specs.declared.terminal.Terminal.{Terminal}
 use Rattle.bj_grammar.specs.declared.terminal.Terminal.TheVariants as t
 use Rattle.bj_grammar.specs.Terminal.{keyword_spelling, sign_spelling, terminal, same_terminal}

@@ -1,8 +1,8 @@
 -- What the functions that read give.
 use Rattle.std.specs.Prelude.{◌≡◌, ℕ, suc, true, false, List, [], Result, Ok, Err, slice_index_or}
-use Rattle.bj_core.specs.declared.types.Span.{Span}
-use Rattle.bj_lex.specs.declared.token.TokenKind.TheVariants as kinds
-use Rattle.bj_lex.specs.declared.token.Token.{Token}
+use Rattle.bj_base.specs.declared.span.Span.{Span}
+use Rattle.bj_token.specs.declared.token.TokenKind.TheVariants as kinds
+use Rattle.bj_token.specs.declared.token.Token.{Token}
 use Rattle.bj_grammar.specs.declared.stop.Stop.{Stop}
 use Rattle.bj_grammar.specs.declared.stop.Stop.TheVariants as f
 use Rattle.bj_grammar.specs.declared.terminal.Terminal.{Terminal}

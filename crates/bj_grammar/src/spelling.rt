@@ -3,7 +3,7 @@ ghost use Rattle.std.specs.Str.{bytes_eq};
 ghost use Rattle.bj_grammar.specs.Terminal as spec;
 
 use crate::Terminal;
-use bj_lex::TokenKind;
+use bj_token::TokenKind;
 
 /// Whether two terminals are the same.
 #[tactic(auto, unfolding(crate::specs::Terminal::same_terminal))]

@@ -2,7 +2,7 @@ ghost use Rattle.std.specs.Prelude.{◌≡◌};
 ghost use Rattle.bj_grammar.specs.declared.stop.Stop.TheVariants as stops;
 ghost use Rattle.bj_grammar.specs.Reader.{nowhere};
 
-use bj_core::{NoMemory, Span};
+use bj_base::{NoMemory, Span};
 use std::alloc::AllocError;
 
 /// Why a rule reads no further.

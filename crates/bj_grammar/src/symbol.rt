@@ -3,8 +3,8 @@ ghost use Rattle.bj_grammar.specs.Terminal.{terminal as spec_terminal};
 
 use crate::Terminal;
 use crate::spelling::terminal_of;
-use bj_core::{Copies, JText, NoMemory, Span};
-use bj_lex::{Token, TokenKind};
+use bj_base::{Copies, JText, NoMemory, Span};
+use bj_token::{Token, TokenKind};
 use std::alloc::Global;
 use std::marker::Model;
 
@@ -19,7 +19,7 @@ pub struct Symbol {
 
 impl Model for Symbol {
     ghost use Rattle.std.specs.Prelude.{◌≡◌};
-    ghost use Rattle.bj_lex.specs.declared.token.Token.{Token};
+    ghost use Rattle.bj_token.specs.declared.token.Token.{Token};
     ghost use Rattle.bj_grammar.specs.Terminal as words;
 
     ghost Value = { Token };

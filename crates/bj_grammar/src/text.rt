@@ -5,7 +5,7 @@ ghost use Rattle.bj_grammar.specs.Given.{text_of, place_of, Takes, TakesOne};
 
 use crate::spelling::is;
 use crate::{Stop, Symbol, Terminal};
-use bj_core::{JText, NoMemory, Seq, Span};
+use bj_base::{JText, NoMemory, Seq, Span};
 use std::alloc::Global;
 
 /// The terminal at a place, and `Other` past the last token.

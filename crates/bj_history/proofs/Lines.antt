@@ -13,8 +13,8 @@ use Rattle.bj_sum.specs.Cells.{creation_of, call_of}
 use Rattle.bj_sum.specs.Reading.{sum_of}
 use Rattle.bj_reading.specs.declared.text.JavaText.{JavaText}
 use Rattle.bj_reading.specs.declared.text.JavaText.TheVariants as java
-use Rattle.bj_history.specs.declared.opening.Wait.TheVariants.{Told}
-use Rattle.bj_history.specs.Names.{value_in, is_taken, is_plain, binds}
+use Rattle.bj_say.specs.declared.wait.Wait.TheVariants.{Told}
+use Rattle.bj_bench.specs.Names.{value_in, is_taken, is_plain, binds}
 use Rattle.bj_history.specs.Replies.{After, LineOutcome, says, reads, starts, opens, pad_term, new_term, call_term, call_name, cell_in, if_free, pad_outcome, if_untaken, creation_begins, creation_outcome, new_outcome, called_outcome, call_outcome, inspected, inspect_outcome, outcome_of}
 
 -- what holds of both holds of the one that the test decides for

@@ -6,7 +6,7 @@ use Rattle.bj_command.specs.declared.command.LineFault.{LineFault}
 use Rattle.bj_command.specs.Words.{form_in, is_quit}
 use Rattle.bj_command.proofs.Quits.{quit_in}
 use Rattle.bj_history.specs.declared.opening.Opening.{Opening}
-use Rattle.bj_history.specs.declared.opening.Wait.TheVariants.{Silent}
+use Rattle.bj_say.specs.declared.wait.Wait.TheVariants.{Silent}
 use Rattle.bj_history.specs.Replies.{After, Answers, LineOutcome, says, no_memory, outcome_of}
 use Rattle.bj_history.specs.History.{loaded, line_outcome, after_outcome, after_line}
 use Rattle.bj_history.proofs.Lines.{OfEach, if_case, of_form, quit_says}

@@ -3,8 +3,8 @@ use Rattle.std.proofs.Common.{◌≡◌, ℕ, true, List, [], ◌∷◌, Option,
 use Rattle.bj_core.specs.declared.entry.Entry.{Entry}
 use Rattle.bj_core.specs.declared.entry.Entry.TheVariants.{Line, Pause, Woke}
 use Rattle.bj_history.specs.declared.opening.Opening.{Opening}
-use Rattle.bj_history.specs.declared.opening.Wait.{Wait}
-use Rattle.bj_history.specs.declared.opening.Wait.TheVariants.{Silent}
+use Rattle.bj_say.specs.declared.wait.Wait.{Wait}
+use Rattle.bj_say.specs.declared.wait.Wait.TheVariants.{Silent}
 use Rattle.bj_history.specs.Replies.{After}
 use Rattle.bj_history.specs.History.{after, after_line, line_outcome, wait_after, has_pause}
 use Rattle.bj_history.proofs.Outcomes.{never_silent, line_case}

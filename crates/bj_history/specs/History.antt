@@ -11,13 +11,14 @@ use Rattle.bj_core.specs.declared.frame.Term.{Term}
 use Rattle.bj_core.specs.declared.program.Program.{Program}
 use Rattle.bj_builtin.specs.Builtin.{builtin}
 use Rattle.bj_history.specs.declared.opening.Opening.{Opening}
-use Rattle.bj_history.specs.declared.opening.Wait.{Wait}
-use Rattle.bj_history.specs.declared.opening.Wait.TheVariants.{Silent}
+use Rattle.bj_say.specs.declared.wait.Wait.{Wait}
+use Rattle.bj_say.specs.declared.wait.Wait.TheVariants.{Silent}
 use Rattle.bj_command.specs.Words.{form_in, is_quit, takes_memory}
 use Rattle.bj_machine.specs.World.{Setting, World, opened, next_action, is_enabled, acted, begun, MayAct}
-use Rattle.bj_history.specs.Names.{bound_by, names_after}
+use Rattle.bj_bench.specs.Names.{names_after}
+use Rattle.bj_history.specs.Names.{bound_by}
 use Rattle.bj_history.specs.Replies.{After, Answers, LineOutcome, no_memory, outcome_of}
-use Rattle.bj_history.specs.Events.{act_event, woke_event, written_line}
+use Rattle.bj_say.specs.Events.{act_event, woke_event, written_line}
 pub use Rattle.bj_history.specs.Replies.{After}
 
 -- the program that is loaded at the opening, until folders are read

@@ -7,7 +7,7 @@ use Rattle.bj_core.specs.declared.program.Program.{Program}
 use Rattle.bj_core.specs.declared.tree.Expr.{Expr}
 use Rattle.bj_core.specs.declared.tree.Stmt.{Stmt}
 use Rattle.bj_core.specs.declared.tree.Stmt.TheVariants.{Return}
-use Rattle.bj_core.specs.declared.types.Span.{Span}
+use Rattle.bj_base.specs.declared.span.Span.{Span}
 use Rattle.bj_core.specs.declared.types.Ty.TheVariants as ty
 use Rattle.bj_core.specs.declared.types.Val.{Val}
 use Rattle.bj_core.specs.declared.types.Val.TheVariants as val
@@ -25,11 +25,11 @@ use Rattle.bj_sum.specs.Reading.{sum_of}
 use Rattle.bj_builtin.specs.Console.{new_cell, call_add, call_get}
 use Rattle.bj_store.specs.State.{State}
 use Rattle.bj_machine.specs.World.{World}
-use Rattle.bj_history.specs.declared.opening.Wait.{Wait as Waiting}
-use Rattle.bj_history.specs.declared.opening.Wait.TheVariants.{Told}
-use Rattle.bj_history.specs.declared.names.BoundName.{BoundName}
-use Rattle.bj_history.specs.Names.{value_in, is_taken, is_plain}
-use Rattle.bj_history.specs.Views.{inspection}
+use Rattle.bj_say.specs.declared.wait.Wait.{Wait as Waiting}
+use Rattle.bj_say.specs.declared.wait.Wait.TheVariants.{Told}
+use Rattle.bj_bench.specs.declared.names.BoundName.{BoundName}
+use Rattle.bj_bench.specs.Names.{value_in, is_taken, is_plain}
+use Rattle.bj_say.specs.Views.{inspection}
 
 -- what holds after a history: the machine, the wait that is open, and the names on the bench, the oldest first
 pub record After : Type 0 where

@@ -1,14 +1,10 @@
 //! Laws of the definitions, on functions that do nothing.
 
-ghost use Rattle.std.specs.Prelude.{◌≡◌, ◌≢◌, ◌≤◌, ℕ, List, ◌++◌, ◌∷◌, [], None, Some, length};
-ghost use Rattle.bj_core.specs.declared.action.Action.TheVariants.{End};
-ghost use Rattle.bj_core.specs.declared.action.Done.TheVariants.{Value};
+ghost use Rattle.std.specs.Prelude.{◌≡◌, ◌≤◌, List, ◌++◌, ◌∷◌, length};
 ghost use Rattle.bj_core.specs.declared.entry.Entry.{Entry};
-ghost use Rattle.bj_core.specs.declared.types.Val.{Val};
-ghost use Rattle.bj_history.specs.declared.names.BoundName.{BoundName};
 ghost use Rattle.bj_history.specs.declared.opening.Opening.{Opening};
 ghost use Rattle.bj_history.specs.History.{Legal, Fits, after, lines, printed, written};
-ghost use Rattle.bj_history.specs.Names.{names_after, value_in, AreApart};
+ghost use Rattle.bj_bench.specs.Names.{AreApart};
 
 /// In a legal history each entry may come where it stands, after the entries before it.
 pub fn each_entry_may_come()
@@ -29,10 +25,4 @@ pub fn acts_are_within_the_limit()
 pub fn names_stand_for_one_object()
     ensures apart { (o : Opening) (log : List Entry) → Legal o log → AreApart (after o log).names }
     ensures few { (o : Opening) (log : List Entry) → Legal o log → length (after o log).names ≤ 1000 }
-{}
-
-/// Where a term that binds a name ends with a value, the name stands for it, and the others stand for what they stood for.
-pub fn bound_names_stand_for_their_objects()
-    ensures same { (names : List BoundName) (name : List ℕ) (v : Val) → value_in names name ≡ None → value_in (names_after (Some name) (Some (End (Value v))) names) name ≡ Some v }
-    ensures others { (names : List BoundName) (name other : List ℕ) (v : Val) → name ≢ other → value_in (names_after (Some name) (Some (End (Value v))) names) other ≡ value_in names other }
 {}

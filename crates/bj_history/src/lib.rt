@@ -2,12 +2,10 @@
 #![tactic(auto)]
 
 mod laws;
-mod names;
 mod opening;
 
 pub use laws::{
-    acts_are_within_the_limit, bound_names_stand_for_their_objects, each_entry_may_come,
-    names_stand_for_one_object, written_is_the_printing_of_each,
+    acts_are_within_the_limit, each_entry_may_come, names_stand_for_one_object,
+    written_is_the_printing_of_each,
 };
-pub use names::BoundName;
-pub use opening::{Opening, Wait};
+pub use opening::Opening;

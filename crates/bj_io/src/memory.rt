@@ -1,7 +1,7 @@
 ghost use Rattle.std.specs.Prelude.{◌≡◌, ◌≤◌, length, drop, Some, Bool};
 
 use crate::{Clock, Poll, Put, Sink, Source};
-use bj_core::{Bytes, Numbers};
+use bj_base::{Bytes, Numbers};
 
 /// A source over memory, which tells all.
 #[derive(Drop)]

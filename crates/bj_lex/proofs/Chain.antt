@@ -2,9 +2,9 @@
 use Rattle.std.proofs.Common.{◌≡◌, ℕ, suc, ◌+◌, ◌<◌, ◌≤◌, Bool, true, false, not, ◌&&◌, cond, eqb, ltb, List, [], ◌∷◌, ◌++◌, length, take, drop, get_or, refl, sym, ap, ◌∙◌, arith, append_assoc, length-append, Some, None, option_map, Ok}
 use borrow.Author.Tests.{eq-eqb, ne_eqb, lt-ltb}
 use Rattle.bj_text.specs.Unescape.{unescaped}
-use Rattle.bj_lex.specs.declared.token.TokenKind.TheVariants.{CharText, StringText, Sign}
+use Rattle.bj_token.specs.declared.token.TokenKind.TheVariants.{CharText, StringText, Sign}
 use Rattle.bj_lex.specs.declared.element.Element.TheVariants.{Blank, Token, Fault}
-use Rattle.bj_core.specs.declared.fault.FaultCode.TheVariants.{Char, Profile}
+use Rattle.bj_base.specs.declared.fault.FaultCode.TheVariants.{Char, Profile}
 use Rattle.bj_lex.specs.Characters.{is_line_end, is_white, begins_word, parts_len}
 use Rattle.bj_lex.specs.Comments.{line_len, block_len, line_element, block_element}
 use Rattle.bj_lex.specs.Literals.{closes, escapes, closing, closed, string_token, char_token, string_element, char_element}

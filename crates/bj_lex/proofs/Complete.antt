@@ -1,7 +1,7 @@
 -- What is derived is read.
 use Rattle.std.proofs.Common.{◌≡◌, ℕ, ◌+◌, ◌≤◌, List, [], ◌∷◌, ◌++◌, length, take, refl, sym, ap, ◌∙◌, arith, length-append}
-use Rattle.bj_lex.specs.declared.token.Token.{Token as Lexeme}
-use Rattle.bj_lex.specs.declared.token.TokenKind.{TokenKind}
+use Rattle.bj_token.specs.declared.token.Token.{Token as Lexeme}
+use Rattle.bj_token.specs.declared.token.TokenKind.{TokenKind}
 use Rattle.bj_lex.specs.declared.place.Place.{Place}
 use Rattle.bj_lex.specs.declared.element.Element.TheVariants.{Blank, Token}
 use Rattle.bj_lex.specs.Elements.{element_of}

@@ -4,9 +4,9 @@ use borrow.Author.Tests.{ne_eqb}
 use Rattle.bj_text.specs.Unescape.{unescaped}
 use Rattle.bj_lex.specs.declared.element.Element.{Element}
 use Rattle.bj_lex.specs.declared.element.Element.TheVariants.{Blank, Token, Fault}
-use Rattle.bj_lex.specs.declared.token.TokenKind.TheVariants.{Word, Keyword, CharText}
-use Rattle.bj_core.specs.declared.fault.FaultCode.{FaultCode}
-use Rattle.bj_core.specs.declared.fault.FaultCode.TheVariants.{Char, Open, Profile}
+use Rattle.bj_token.specs.declared.token.TokenKind.TheVariants.{Word, Keyword, CharText}
+use Rattle.bj_base.specs.declared.fault.FaultCode.{FaultCode}
+use Rattle.bj_base.specs.declared.fault.FaultCode.TheVariants.{Char, Open, Profile}
 use Rattle.bj_lex.specs.Characters.{begins_word}
 use Rattle.bj_lex.specs.Comments.{block_len, is_comment_end}
 use Rattle.bj_lex.specs.Literals.{closes, escapes, closing, closed, string_token, char_token}

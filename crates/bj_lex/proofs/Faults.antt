@@ -1,10 +1,10 @@
 -- Where the reading stops, tokens lead, and what stands there is a fault by a rule.
 use Rattle.std.proofs.Common.{◌≡◌, ℕ, zero, suc, ◌+◌, ◌<◌, ◌≤◌, List, [], ◌∷◌, ◌++◌, length, take, drop, refl, sym, ap, ◌∙◌, subst, arith, append_assoc, length-append}
-use Rattle.bj_lex.specs.declared.token.Token.{Token as Lexeme}
+use Rattle.bj_token.specs.declared.token.Token.{Token as Lexeme}
 use Rattle.bj_lex.specs.declared.place.Place.{Place}
 use Rattle.bj_lex.specs.declared.element.Element.{Element}
 use Rattle.bj_lex.specs.declared.element.Element.TheVariants.{Blank, Token, Fault}
-use Rattle.bj_core.specs.declared.fault.FaultCode.{FaultCode}
+use Rattle.bj_base.specs.declared.fault.FaultCode.{FaultCode}
 use Rattle.bj_lex.specs.Elements.{element_of}
 use Rattle.bj_lex.specs.Places.{next_place, place_after, start}
 use Rattle.bj_lex.specs.Texts.{Reading, Read, Stopped, after_token, token_at, read_after, read}

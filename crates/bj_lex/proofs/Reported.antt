@@ -1,10 +1,10 @@
 -- A fault to which tokens lead is where the reading stops.
 use Rattle.std.proofs.Common.{◌≡◌, ℕ, ◌+◌, ◌<◌, ◌≤◌, List, [], ◌∷◌, ◌++◌, length, take, drop, refl, sym, ap, ◌∙◌, arith, append_assoc, length-append}
 use Rattle.std.proofs.Math.Seq.{take-append_seam}
-use Rattle.bj_lex.specs.declared.token.TokenKind.{TokenKind}
+use Rattle.bj_token.specs.declared.token.TokenKind.{TokenKind}
 use Rattle.bj_lex.specs.declared.place.Place.{Place}
 use Rattle.bj_lex.specs.declared.element.Element.TheVariants.{Blank, Token, Fault}
-use Rattle.bj_core.specs.declared.fault.FaultCode.{FaultCode}
+use Rattle.bj_base.specs.declared.fault.FaultCode.{FaultCode}
 use Rattle.bj_lex.specs.Elements.{element_of}
 use Rattle.bj_lex.specs.Places.{place_after, start}
 use Rattle.bj_lex.specs.Texts.{Stopped, after_token, token_at, read_after, read}

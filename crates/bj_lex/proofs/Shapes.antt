@@ -3,13 +3,13 @@ use Rattle.std.proofs.Common.{◌≡◌, ℕ, zero, suc, ◌+◌, ◌-◌, ◌<�
 use borrow.Author.Tests.{eqb-true, eqb-false}
 use Rattle.std.proofs.lemmas.List.{take-append-drop, length-take-le}
 use Rattle.bj_text.specs.Unescape.{unescaped}
-use Rattle.bj_lex.specs.declared.token.TokenKind.{TokenKind}
-use Rattle.bj_lex.specs.declared.token.TokenKind.TheVariants.{Word, Keyword, CharText, StringText, Sign}
+use Rattle.bj_token.specs.declared.token.TokenKind.{TokenKind}
+use Rattle.bj_token.specs.declared.token.TokenKind.TheVariants.{Word, Keyword, CharText, StringText, Sign}
 use Rattle.bj_lex.specs.declared.element.Element.{Element}
 use Rattle.bj_lex.specs.declared.element.Element.TheVariants.{Blank, Token, Fault}
 use Rattle.bj_lex.specs.declared.numbers.Numeral.{Numeral}
 use Rattle.bj_lex.specs.declared.numbers.Numeral.TheVariants.{Malformed, TooWide, Value}
-use Rattle.bj_core.specs.declared.fault.FaultCode.TheVariants.{Char, Profile, Open}
+use Rattle.bj_base.specs.declared.fault.FaultCode.TheVariants.{Char, Profile, Open}
 use Rattle.bj_lex.specs.Characters.{is_line_end, is_white, begins_word, begins_part, front_width, parts_len, parts_after}
 use Rattle.bj_lex.specs.Comments.{is_comment_end, line_len, block_len, line_element, block_element}
 use Rattle.bj_lex.specs.Literals.{closes, escapes, closing, closed, string_token, char_token, string_element, char_element}

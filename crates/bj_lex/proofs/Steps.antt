@@ -1,11 +1,11 @@
 -- One element after the other.
 use Rattle.std.proofs.Common.{◌≡◌, ℕ, zero, suc, ◌+◌, ◌-◌, ◌<◌, ◌≤◌, List, [], ◌∷◌, ◌++◌, length, take, drop, refl, sym, ap, ◌∙◌, drop-drop, arith, append_assoc, append-nil}
 use Rattle.std.proofs.lemmas.List.{at_drop_all}
-use Rattle.bj_lex.specs.declared.token.Token.{Token as Lexeme}
-use Rattle.bj_lex.specs.declared.token.TokenKind.{TokenKind}
+use Rattle.bj_token.specs.declared.token.Token.{Token as Lexeme}
+use Rattle.bj_token.specs.declared.token.TokenKind.{TokenKind}
 use Rattle.bj_lex.specs.declared.place.Place.{Place}
 use Rattle.bj_lex.specs.declared.element.Element.TheVariants.{Blank, Token, Fault}
-use Rattle.bj_core.specs.declared.fault.FaultCode.{FaultCode}
+use Rattle.bj_base.specs.declared.fault.FaultCode.{FaultCode}
 use Rattle.bj_lex.specs.Elements.{element_of}
 use Rattle.bj_lex.specs.Places.{next_place, place_after}
 use Rattle.bj_lex.specs.Texts.{Reading, Read, Stopped, after_token, after_tokens, token_at, from_element, read_after, read, GoesOn}

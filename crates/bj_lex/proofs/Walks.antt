@@ -1,11 +1,11 @@
 -- From element to element, along the rules of the grammar.
 use Rattle.std.proofs.Common.{◌≡◌, ℕ, ◌+◌, ◌≤◌, cond, List, [], ◌∷◌, ◌++◌, length, take, refl, sym, ap, ◌∙◌, subst, arith, append_assoc, length-append, Option, Some, None}
-use Rattle.bj_lex.specs.declared.token.TokenKind.{TokenKind}
-use Rattle.bj_lex.specs.declared.token.TokenKind.TheVariants.{Word, Keyword, CharText, StringText, Sign}
+use Rattle.bj_token.specs.declared.token.TokenKind.{TokenKind}
+use Rattle.bj_token.specs.declared.token.TokenKind.TheVariants.{Word, Keyword, CharText, StringText, Sign}
 use Rattle.bj_lex.specs.declared.place.Place.{Place}
 use Rattle.bj_lex.specs.declared.element.Element.{Element}
 use Rattle.bj_lex.specs.declared.element.Element.TheVariants.{Blank, Token, Fault}
-use Rattle.bj_core.specs.declared.fault.FaultCode.TheVariants.{Profile, Open}
+use Rattle.bj_base.specs.declared.fault.FaultCode.TheVariants.{Profile, Open}
 use Rattle.bj_lex.specs.Numerals.{is_float, numeral_of, number_kind, numeral_element}
 use Rattle.bj_lex.specs.Signs.{sign_len}
 use Rattle.bj_lex.specs.Words.{is_keyword, is_left_out}

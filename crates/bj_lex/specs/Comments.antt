@@ -3,7 +3,7 @@ use Rattle.std.specs.Prelude.{ℕ, suc, ◌+◌, Bool, ◌&&◌, List, [], ◌�
 use Rattle.bj_lex.specs.Characters.{is_line_end}
 use Rattle.bj_lex.specs.declared.element.Element.{Element}
 use Rattle.bj_lex.specs.declared.element.Element.TheVariants.{Blank, Fault}
-use Rattle.bj_core.specs.declared.fault.FaultCode.TheVariants.{Open}
+use Rattle.bj_base.specs.declared.fault.FaultCode.TheVariants.{Open}
 
 -- how many units stand before the first line end, or the end
 unfoldable pub line_len : List ℕ → ℕ

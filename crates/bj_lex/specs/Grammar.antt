@@ -3,14 +3,14 @@ use Rattle.std.specs.Prelude.{◌≡◌, ℕ, Bool, true, false, ◌||◌, ◌==
 use Rattle.std.specs.List.{list_all}
 use Rattle.std.specs.Char.Utf16.{utf16_chars}
 use Rattle.bj_text.specs.Unescape.{unescaped}
-use Rattle.bj_lex.specs.declared.token.TokenKind.{TokenKind}
-use Rattle.bj_lex.specs.declared.token.TokenKind.TheVariants.{Word, Keyword, CharText, StringText, Sign}
-use Rattle.bj_lex.specs.declared.token.Token.{Token as Lexeme}
+use Rattle.bj_token.specs.declared.token.TokenKind.{TokenKind}
+use Rattle.bj_token.specs.declared.token.TokenKind.TheVariants.{Word, Keyword, CharText, StringText, Sign}
+use Rattle.bj_token.specs.declared.token.Token.{Token as Lexeme}
 use Rattle.bj_lex.specs.declared.place.Place.{Place}
 use Rattle.bj_lex.specs.Texts.{Read, read}
 use Rattle.bj_lex.specs.Places.{start, place_after}
-use Rattle.bj_core.specs.declared.fault.FaultCode.{FaultCode}
-use Rattle.bj_core.specs.declared.fault.FaultCode.TheVariants.{Char, Open, Wide, Profile}
+use Rattle.bj_base.specs.declared.fault.FaultCode.{FaultCode}
+use Rattle.bj_base.specs.declared.fault.FaultCode.TheVariants.{Char, Open, Wide, Profile}
 use Rattle.bj_lex.specs.declared.numbers.Numeral.TheVariants.{Malformed, TooWide, Value}
 use Rattle.bj_lex.specs.Characters.{is_line_end, is_white, passes, is_part_char, begins_word, begins_part}
 use Rattle.bj_lex.specs.Comments.{is_comment_end}

@@ -4,8 +4,8 @@ use Rattle.bj_text.specs.Unescape.{unescaped}
 use Rattle.bj_lex.specs.Characters.{is_line_end}
 use Rattle.bj_lex.specs.declared.element.Element.{Element}
 use Rattle.bj_lex.specs.declared.element.Element.TheVariants.{Token, Fault}
-use Rattle.bj_lex.specs.declared.token.TokenKind.TheVariants.{CharText, StringText}
-use Rattle.bj_core.specs.declared.fault.FaultCode.TheVariants.{Char, Open}
+use Rattle.bj_token.specs.declared.token.TokenKind.TheVariants.{CharText, StringText}
+use Rattle.bj_base.specs.declared.fault.FaultCode.TheVariants.{Char, Open}
 
 -- the unit is the quotation mark, and the unit is a backslash, where the one before it was a backslash that escapes it or not
 abbrev pub closes : ℕ → Bool → ℕ → Bool

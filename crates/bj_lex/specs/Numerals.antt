@@ -5,9 +5,9 @@ use Rattle.bj_lex.specs.declared.element.Element.{Element}
 use Rattle.bj_lex.specs.declared.element.Element.TheVariants.{Token, Fault}
 use Rattle.bj_lex.specs.declared.numbers.Numeral.{Numeral}
 use Rattle.bj_lex.specs.declared.numbers.Numeral.TheVariants.{Malformed, TooWide, Value}
-use Rattle.bj_lex.specs.declared.token.TokenKind.{TokenKind}
-use Rattle.bj_lex.specs.declared.token.TokenKind.TheVariants.{Number, LongNumber}
-use Rattle.bj_core.specs.declared.fault.FaultCode.TheVariants.{Char, Wide, Profile}
+use Rattle.bj_token.specs.declared.token.TokenKind.{TokenKind}
+use Rattle.bj_token.specs.declared.token.TokenKind.TheVariants.{Number, LongNumber}
+use Rattle.bj_base.specs.declared.fault.FaultCode.TheVariants.{Char, Wide, Profile}
 
 abbrev pub below : ℕ → Option ℕ → Bool
 below base None = false

@@ -1,7 +1,7 @@
 -- Lines and columns [JLS 3.4]: both from 1, columns in UTF-16 units.
 use Rattle.std.specs.Prelude.{ℕ, ◌+◌, Bool, true, false, List, [], ◌∷◌, ◌==◌, if◌then◌else◌}
 use Rattle.bj_lex.specs.declared.place.Place.{Place}
-use Rattle.bj_core.specs.declared.types.Span.{Span}
+use Rattle.bj_base.specs.declared.span.Span.{Span}
 
 abbrev pub start : Place
 start = record { line = 1; column = 1; after_return = false }

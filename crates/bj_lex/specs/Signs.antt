@@ -4,8 +4,8 @@ use Rattle.std.specs.List.{list_any}
 use Rattle.bj_lex.specs.Numerals.{is_digit_in}
 use Rattle.bj_lex.specs.declared.element.Element.{Element}
 use Rattle.bj_lex.specs.declared.element.Element.TheVariants.{Token, Fault}
-use Rattle.bj_lex.specs.declared.token.TokenKind.TheVariants.{Sign}
-use Rattle.bj_core.specs.declared.fault.FaultCode.TheVariants.{Char, Profile}
+use Rattle.bj_token.specs.declared.token.TokenKind.TheVariants.{Sign}
+use Rattle.bj_base.specs.declared.fault.FaultCode.TheVariants.{Char, Profile}
 
 abbrev pub is_one_of : List ℕ → ℕ → Bool
 is_one_of units u = list_any (λ v. u == v) units

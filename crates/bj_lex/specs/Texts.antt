@@ -3,15 +3,15 @@ use Rattle.std.specs.Prelude.{◌≡◌, ℕ, zero, suc, ◌+◌, ◌-◌, List,
 use Rattle.std.specs.Str.{is_utf8}
 use Rattle.std.specs.Str.Lossy.{utf8_lossy, utf8_valid_len}
 use Rattle.bj_text.specs.Utf16.{units_of}
-use Rattle.bj_core.specs.declared.types.Span.{Span}
-use Rattle.bj_core.specs.declared.fault.FaultCode.{FaultCode}
-use Rattle.bj_core.specs.declared.fault.FaultCode.TheVariants.{Char}
-use Rattle.bj_core.specs.declared.fault.Refusal.{Refusal}
-use Rattle.bj_core.specs.declared.fault.Refusal.TheVariants.{Fault as Refused, NoMemory}
+use Rattle.bj_base.specs.declared.span.Span.{Span}
+use Rattle.bj_base.specs.declared.fault.FaultCode.{FaultCode}
+use Rattle.bj_base.specs.declared.fault.FaultCode.TheVariants.{Char}
+use Rattle.bj_base.specs.declared.fault.Refusal.{Refusal}
+use Rattle.bj_base.specs.declared.fault.Refusal.TheVariants.{Fault as Refused, NoMemory}
 use Rattle.bj_lex.specs.declared.reading.Stop.{Stop}
 use Rattle.bj_lex.specs.declared.reading.Stop.TheVariants.{Fault as StopFault, NoMemory as StopNoMemory}
-use Rattle.bj_lex.specs.declared.token.Token.{Token as Lexeme}
-use Rattle.bj_lex.specs.declared.token.TokenKind.{TokenKind}
+use Rattle.bj_token.specs.declared.token.Token.{Token as Lexeme}
+use Rattle.bj_token.specs.declared.token.TokenKind.{TokenKind}
 use Rattle.bj_lex.specs.declared.place.Place.{Place}
 use Rattle.bj_lex.specs.declared.element.Element.{Element}
 use Rattle.bj_lex.specs.declared.element.Element.TheVariants.{Blank, Token, Fault}

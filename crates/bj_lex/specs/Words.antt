@@ -2,8 +2,8 @@
 use Rattle.std.specs.Prelude.{ℕ, Bool, ◌||◌, List, if◌then◌else◌, codes, bytes_eq}
 use Rattle.bj_lex.specs.declared.element.Element.{Element}
 use Rattle.bj_lex.specs.declared.element.Element.TheVariants.{Token, Fault}
-use Rattle.bj_lex.specs.declared.token.TokenKind.TheVariants.{Word, Keyword}
-use Rattle.bj_core.specs.declared.fault.FaultCode.TheVariants.{Profile}
+use Rattle.bj_token.specs.declared.token.TokenKind.TheVariants.{Word, Keyword}
+use Rattle.bj_base.specs.declared.fault.FaultCode.TheVariants.{Profile}
 
 abbrev pub is_word : List ℕ → List ℕ → Bool
 is_word word us = bytes_eq us word

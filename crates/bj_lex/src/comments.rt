@@ -4,7 +4,7 @@ ghost use Rattle.bj_lex.specs.Elements.{IsCounted};
 
 use crate::characters::{is_line_end, unit_at};
 use crate::element::Element;
-use bj_core::FaultCode;
+use bj_base::FaultCode;
 
 const STAR: u16 = 42;
 

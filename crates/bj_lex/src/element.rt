@@ -6,9 +6,9 @@ use crate::comments::{block_element, line_element};
 use crate::literals::{char_element, string_element};
 use crate::numbers::{is_digit_in, number_element};
 use crate::signs::sign_element;
-use crate::token::TokenKind;
 use crate::words::word_element;
-use bj_core::{FaultCode, NoMemory};
+use bj_base::{FaultCode, NoMemory};
+use bj_token::TokenKind;
 use std::alloc::Global;
 
 const DOUBLE_QUOTE: u16 = 34;

@@ -1,7 +1,7 @@
 ghost use Rattle.std.specs.Prelude.{◌≡◌, List, ℕ};
-ghost use Rattle.bj_core.specs.declared.fault.FaultCode.{FaultCode};
+ghost use Rattle.bj_base.specs.declared.fault.FaultCode.{FaultCode};
 ghost use Rattle.bj_lex.specs.declared.place.Place.{Place};
-ghost use Rattle.bj_lex.specs.declared.token.Token.{Token as Lexeme};
+ghost use Rattle.bj_token.specs.declared.token.Token.{Token as Lexeme};
 ghost use Rattle.bj_lex.specs.Texts.{Read as ReadAs, Stopped, read};
 ghost use Rattle.bj_lex.specs.Grammar.{IsFaultAt, IsReadAs, Lexes, Spelled, spelled};
 

@@ -4,9 +4,9 @@ ghost use Rattle.bj_lex.specs.Elements.{IsCounted};
 
 use crate::characters::{front_of, is_line_end};
 use crate::element::Element;
-use crate::token::TokenKind;
-use bj_core::{FaultCode, NoMemory};
+use bj_base::{FaultCode, NoMemory};
 use bj_text::{EscapeFault, unescape};
+use bj_token::TokenKind;
 use std::alloc::Global;
 
 const DOUBLE_QUOTE: u16 = 34;

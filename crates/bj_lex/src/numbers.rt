@@ -6,8 +6,8 @@ ghost use Rattle.bj_lex.specs.Elements.{IsWithin};
 use crate::characters::{front_of, rest_from, unit_at};
 use crate::element::Element;
 use crate::floats::is_float;
-use crate::token::TokenKind;
-use bj_core::FaultCode;
+use bj_base::FaultCode;
+use bj_token::TokenKind;
 
 const UNDERSCORE: u16 = 95;
 

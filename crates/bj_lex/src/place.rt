@@ -1,7 +1,7 @@
 ghost use Rattle.std.specs.Prelude.{◌≡◌, ◌+◌, ◌<◌, ◌≤◌, length};
 ghost use Rattle.bj_lex.specs.Places.{start, new_line, next_place, place_after, span_of};
 
-use bj_core::Span;
+use bj_base::Span;
 
 const LINE_FEED: u16 = 10;
 

@@ -5,9 +5,9 @@ ghost use Rattle.bj_lex.specs.Texts.{ReadsAs, IsFirstFault, Read as ReadAs, Stop
 use crate::characters::{front_of, rest_from};
 use crate::element::{Element, element_of};
 use crate::place::Place;
-use crate::token::{Token, TokenKind, Tokens};
-use bj_core::{Copies, Fault, FaultCode, JText, Name, NoMemory, Refusal, Seq};
+use bj_base::{Copies, Fault, FaultCode, JText, Name, NoMemory, Refusal, Seq};
 use bj_text::utf16;
+use bj_token::{Token, TokenKind, Tokens};
 use std::alloc::Global;
 
 /// The tokens of a text, and the place where it ends.

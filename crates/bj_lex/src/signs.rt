@@ -5,8 +5,8 @@ ghost use Rattle.bj_lex.specs.Signs.{is_one_of, is_single, is_double, is_triple,
 use crate::characters::unit_at;
 use crate::element::Element;
 use crate::numbers::is_digit_in;
-use crate::token::TokenKind;
-use bj_core::FaultCode;
+use bj_base::FaultCode;
+use bj_token::TokenKind;
 
 /// The longest separator, operator or `@` at the front [JLS 3.11, 3.12].
 pub fn sign_element(rest: &[u16]) -> Element

@@ -2,7 +2,7 @@ ghost use Rattle.std.specs.Prelude.{◌≡◌, IfOk};
 ghost use Rattle.bj_lex.specs.Values.{quoted, meaning, char_value};
 
 use crate::characters::{front_of, rest_from};
-use bj_core::{JText, NoMemory};
+use bj_base::{JText, NoMemory};
 use bj_text::{EscapeFault, unescape};
 use std::alloc::Global;
 

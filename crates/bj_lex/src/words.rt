@@ -3,8 +3,8 @@ ghost use Rattle.bj_lex.specs.Words.{word_element, is_word, is_keyword, is_left_
 ghost use Rattle.bj_lex.specs.Elements.{IsWithin};
 
 use crate::element::Element;
-use crate::token::TokenKind;
-use bj_core::FaultCode;
+use bj_base::FaultCode;
+use bj_token::TokenKind;
 
 /// A word: a keyword, or else an identifier. The keywords that the profile leaves out are refused [JLS 3.8, 3.9].
 pub fn word_element(word: &[u16]) -> Element

@@ -1,12 +1,12 @@
 -- A class is what the checked reader finds, and its fault is the first.
 use Rattle.std.proofs.Common.{◌≡◌, ℕ, suc, ◌+◌, ◌<◌, ◌≤◌, ◌⊎◌, inl, inr, Err, List, length, refl, sym, ap, ◌∙◌, subst, arith, le_refl}
-use Rattle.bj_core.specs.declared.types.Span.{Span}
-use Rattle.bj_core.specs.declared.fault.FaultCode.{FaultCode}
-use Rattle.bj_core.specs.declared.fault.FaultCode.TheVariants as codes
-use Rattle.bj_core.specs.declared.fault.Refusal.{Refusal}
-use Rattle.bj_core.specs.declared.fault.Refusal.TheVariants as refusals
-use Rattle.bj_lex.specs.declared.token.Token.{Token}
-use Rattle.bj_lex.specs.declared.token.Tokens.{Tokens}
+use Rattle.bj_base.specs.declared.span.Span.{Span}
+use Rattle.bj_base.specs.declared.fault.FaultCode.{FaultCode}
+use Rattle.bj_base.specs.declared.fault.FaultCode.TheVariants as codes
+use Rattle.bj_base.specs.declared.fault.Refusal.{Refusal}
+use Rattle.bj_base.specs.declared.fault.Refusal.TheVariants as refusals
+use Rattle.bj_token.specs.declared.token.Token.{Token}
+use Rattle.bj_token.specs.declared.token.Tokens.{Tokens}
 use Rattle.bj_tree.specs.declared.class.ClassTree.{ClassTree}
 use Rattle.bj_rules.specs.declared.misfit.Misfit.{Misfit}
 use Rattle.bj_grammar.specs.declared.stop.Stop.TheVariants as stops
@@ -20,10 +20,10 @@ use Rattle.bj_class.specs.Reading.{file_at}
 use Rattle.bj_class.proofs.LowMembers.{file_low, deep_high}
 use Rattle.bj_parse.specs.declared.halt.Halt.{Halt}
 use Rattle.bj_parse.specs.declared.halt.Halt.TheVariants as halts
-use Rattle.bj_parse.specs.Line.{most_nodes, IsStuck, spot}
+use Rattle.bj_line.specs.Line.{most_nodes, IsStuck, spot}
 use Rattle.bj_parse.specs.Checked.{Checked, Reads, Misfits, IsDeepChecked, HaltsAs, checked_file}
 use Rattle.bj_parse.specs.Class.{IsClass, FirstMisfit, FirstFault, TooDeep, IsBehind, member_code, GivesClass, IsFirst, ClassFault, the_file, IsRefusalOf}
-use Rattle.bj_parse.proofs.Whole as whole
+use Rattle.bj_line.proofs.Whole as whole
 use Rattle.bj_parse.proofs.Items.{IsHalted}
 use Rattle.bj_parse.proofs.FileRun.{Parts}
 use Rattle.bj_parse.proofs.FileWhole as file

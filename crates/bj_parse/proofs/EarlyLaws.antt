@@ -2,8 +2,8 @@
 use Rattle.std.proofs.Common.{◌≡◌, ℕ, suc, ◌<◌, ◌≤◌, ◌⊎◌, inl, inr, true, false, List, [], ◌∷◌, ◌++◌, length, Option, Some, None, refl, sym, ap, ◌∙◌, subst, arith, append_assoc, append-nil}
 use Rattle.std.specs.Prelude.{if◌then◌else◌, is_none}
 use Rattle.std.proofs.lemmas.Bool.{cases_lt}
-use Rattle.bj_core.specs.declared.types.Span.{Span}
-use Rattle.bj_lex.specs.declared.token.Token.{Token}
+use Rattle.bj_base.specs.declared.span.Span.{Span}
+use Rattle.bj_token.specs.declared.token.Token.{Token}
 use Rattle.bj_tree.specs.declared.class.AnnotationTree.{AnnotationTree}
 use Rattle.bj_tree.specs.declared.class.Modifier.{Modifier}
 use Rattle.bj_rules.specs.declared.misfit.Misfit.{Misfit}

@@ -1,10 +1,10 @@
 -- The judgement on annotations and modifiers, from the laws of the readers of heads and members.
 use Rattle.std.proofs.Common.{suc, List, length}
-use Rattle.bj_lex.specs.declared.token.Token.{Token}
+use Rattle.bj_token.specs.declared.token.Token.{Token}
 use Rattle.bj_grammar.specs.Given.{place_of}
 use Rattle.bj_stmt.proofs.GivenExpressions.{given}
 use Rattle.bj_class.specs.Deep.{DeepMember}
-use Rattle.bj_parse.specs.Line.{most_nodes}
+use Rattle.bj_line.specs.Line.{most_nodes}
 use Rattle.bj_parse.proofs.EarlyNeeded.{Early}
 use Rattle.bj_parse.proofs.EarlyLaws.{Marks}
 use Rattle.bj_parse.proofs.EarlyJoin as join

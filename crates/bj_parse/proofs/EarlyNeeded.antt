@@ -1,7 +1,7 @@
 -- What the laws of files ask of the judgement on annotations and modifiers of a part that goes wrong.
 use Rattle.std.proofs.Common.{◌≡◌, ℕ, List, false, true, Some}
-use Rattle.bj_core.specs.declared.types.Span.{Span}
-use Rattle.bj_lex.specs.declared.token.Token.{Token}
+use Rattle.bj_base.specs.declared.span.Span.{Span}
+use Rattle.bj_token.specs.declared.token.Token.{Token}
 use Rattle.bj_tree.specs.declared.class.ClassKind.{ClassKind}
 use Rattle.bj_tree.specs.declared.member.MemberTree.{MemberTree}
 use Rattle.bj_rules.specs.declared.misfit.Misfit.{Misfit}

@@ -1,7 +1,7 @@
 -- The parts of a file, each checked as it stands, beside its grammar.
 use Rattle.std.proofs.Common.{◌≡◌, ℕ, true, false, List, [], ◌∷◌, ◌++◌, Option, Some, None, refl, sym, ap, subst}
-use Rattle.bj_core.specs.declared.types.Span.{Span}
-use Rattle.bj_lex.specs.declared.token.Token.{Token}
+use Rattle.bj_base.specs.declared.span.Span.{Span}
+use Rattle.bj_token.specs.declared.token.Token.{Token}
 use Rattle.bj_tree.specs.declared.class.ClassKind.{ClassKind}
 use Rattle.bj_tree.specs.declared.class.ImportTree.{ImportTree}
 use Rattle.bj_tree.specs.declared.member.MemberTree.{MemberTree}

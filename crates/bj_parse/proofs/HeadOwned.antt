@@ -1,6 +1,6 @@
 -- What the modifiers before a class or an interface that goes wrong may belong to, as the tokens of a file tell.
 use Rattle.std.proofs.Common.{ℕ, suc, List, length}
-use Rattle.bj_lex.specs.declared.token.Token.{Token}
+use Rattle.bj_token.specs.declared.token.Token.{Token}
 use Rattle.bj_grammar.specs.Given.{text_of, place_of}
 use Rattle.bj_parse.specs.Early.{head_places}
 use Rattle.bj_parse.specs.Marks.{head_place}

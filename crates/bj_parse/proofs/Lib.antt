@@ -1,6 +1,4 @@
 pub mod Ends
-pub mod Whole
-pub mod LineLaws
 pub mod Owners
 pub mod SameMarks
 pub mod HeadOwners

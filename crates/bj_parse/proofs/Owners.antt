@@ -1,6 +1,6 @@
 -- What the laws of annotations and modifiers ask of the places that the modifiers of a part may belong to.
 use Rattle.std.proofs.Common.{◌≡◌, ℕ, ◌<◌, ◌⊎◌, List, [], ◌∷◌, Option}
-use Rattle.bj_core.specs.declared.types.Span.{Span}
+use Rattle.bj_base.specs.declared.span.Span.{Span}
 use Rattle.bj_tree.specs.declared.class.Modifier.{Modifier}
 use Rattle.bj_rules.specs.declared.place.Place.{Place}
 use Rattle.bj_grammar.specs.Reader.{Text, Found}

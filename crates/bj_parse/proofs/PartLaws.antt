@@ -1,6 +1,6 @@
 -- The laws of the readers of a file's parts.
 use Rattle.std.proofs.Common.{ℕ}
-use Rattle.bj_core.specs.declared.types.Span.{Span}
+use Rattle.bj_base.specs.declared.span.Span.{Span}
 use Rattle.bj_stmt.proofs.GivenExpressions.{given}
 use Rattle.bj_class.proofs.GivenStatements.{blocks}
 use Rattle.bj_class.proofs.NameLaws as names
@@ -8,7 +8,7 @@ use Rattle.bj_class.proofs.HeadLaws as before
 use Rattle.bj_class.proofs.MemberLaws as one
 use Rattle.bj_class.proofs.MemberListLaws as all
 use Rattle.bj_class.proofs.FileLaws.{file_laws}
-use Rattle.bj_parse.specs.Line.{most_nodes}
+use Rattle.bj_line.specs.Line.{most_nodes}
 use Rattle.bj_parse.proofs.FileRun.{Parts}
 
 pub parts : (place : ℕ → Span) (most : ℕ) → Parts place most most_nodes

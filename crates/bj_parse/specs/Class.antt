@@ -1,12 +1,12 @@
 -- What the tokens of a file are, and what reading one promises.
 use Rattle.std.specs.Prelude.{◌≡◌, ℕ, suc, ◌≤◌, Bool, ◌&&◌, ◌||◌, not, if◌then◌else◌, ◌⊎◌, List, [], ◌∷◌, length, Some, None, Result, Ok, Err}
-use Rattle.bj_core.specs.declared.types.Span.{Span}
-use Rattle.bj_core.specs.declared.fault.FaultCode.{FaultCode}
-use Rattle.bj_core.specs.declared.fault.FaultCode.TheVariants as codes
-use Rattle.bj_core.specs.declared.fault.Refusal.{Refusal}
-use Rattle.bj_core.specs.declared.fault.Refusal.TheVariants as refusals
-use Rattle.bj_lex.specs.declared.token.Token.{Token}
-use Rattle.bj_lex.specs.declared.token.Tokens.{Tokens}
+use Rattle.bj_base.specs.declared.span.Span.{Span}
+use Rattle.bj_base.specs.declared.fault.FaultCode.{FaultCode}
+use Rattle.bj_base.specs.declared.fault.FaultCode.TheVariants as codes
+use Rattle.bj_base.specs.declared.fault.Refusal.{Refusal}
+use Rattle.bj_base.specs.declared.fault.Refusal.TheVariants as refusals
+use Rattle.bj_token.specs.declared.token.Token.{Token}
+use Rattle.bj_token.specs.declared.token.Tokens.{Tokens}
 use Rattle.bj_tree.specs.declared.class.ClassKind.{ClassKind}
 use Rattle.bj_tree.specs.declared.class.ImportTree.{ImportTree}
 use Rattle.bj_tree.specs.declared.class.ClassTree.{ClassTree}
@@ -22,7 +22,7 @@ use Rattle.bj_expr.specs.Grammar.{leasts}
 use Rattle.bj_class.specs.declared.head.ClassHead.{ClassHead}
 use Rattle.bj_class.specs.Grammar.{Imports, Import, Head, Members, Member, File, modifier_words}
 use Rattle.bj_class.specs.Deep.{HighMembers, DeepMembers}
-use Rattle.bj_parse.specs.Line.{most_nodes, SameBefore, DeepAt, back, class_words, is_left_out, spot}
+use Rattle.bj_line.specs.Line.{most_nodes, SameBefore, DeepAt, back, class_words, is_left_out, spot}
 use Rattle.bj_parse.specs.Marks.{member_place, head_place, UnfitMark}
 use Rattle.bj_parse.specs.Checked.{Checked, IsDeepChecked, checked_file}
 use Rattle.bj_parse.specs.declared.halt.Halt.{Halt}

@@ -1,7 +1,7 @@
 -- How the annotations and modifiers of a part are judged where the grammar stops it, as a function on texts.
 use Rattle.std.specs.Prelude.{ℕ, zero, suc, ◌&&◌, not, if◌then◌else◌, nat_lt, List, [], ◌∷◌, ◌++◌, Option, Some, None, is_none}
-use Rattle.bj_core.specs.declared.types.Span.{Span}
-use Rattle.bj_tree.specs.declared.types.TypeTree.{TypeTree}
+use Rattle.bj_base.specs.declared.span.Span.{Span}
+use Rattle.bj_expr_tree.specs.declared.types.TypeTree.{TypeTree}
 use Rattle.bj_tree.specs.declared.class.AnnotationTree.{AnnotationTree}
 use Rattle.bj_tree.specs.declared.class.ClassKind.{ClassKind}
 use Rattle.bj_tree.specs.declared.class.Modifier.{Modifier}

@@ -1,4 +1,3 @@
-pub mod Line
 pub mod Marks
 pub mod Early
 pub mod Checked

@@ -3,8 +3,8 @@ ghost use Rattle.bj_grammar.specs.Given.{text_of, place_of};
 ghost use Rattle.bj_class.specs.Reading as reading;
 ghost use Rattle.bj_parse.specs.Early as spec;
 
+use bj_base::NoMemory;
 use bj_class::annotation_at;
-use bj_core::NoMemory;
 use bj_expr::Bounds;
 use bj_grammar::{Stop, Symbol, Terminal, sees};
 use bj_rules::{Misfit, annotation_misfit};

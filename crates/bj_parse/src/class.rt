@@ -5,15 +5,13 @@ ghost use Rattle.bj_parse.specs.Checked.{Reads, HaltsAs};
 ghost use Rattle.bj_parse.specs.Class as spec;
 
 use crate::Halt;
-use crate::depth::MOST_NODES;
-use crate::faults::{fault, spot};
 use crate::file::file_from;
 use crate::left_out::member_code;
-use crate::symbols::symbols_of;
-use bj_core::{FaultCode, Refusal};
+use bj_base::{FaultCode, Refusal};
 use bj_expr::Bounds;
 use bj_grammar::{Stop, Symbol};
-use bj_lex::Tokens;
+use bj_line::{MOST_NODES, fault, spot, symbols_of};
+use bj_token::Tokens;
 use bj_tree::ClassTree;
 use std::alloc::Global;
 

@@ -6,8 +6,8 @@ ghost use Rattle.bj_parse.specs.Checked.{GivesChecked};
 ghost use Rattle.bj_parse.specs.Parts as parts;
 
 use crate::Halt;
+use bj_base::Seq;
 use bj_class::import_at;
-use bj_core::Seq;
 use bj_expr::Bounds;
 use bj_grammar::{Stop, Symbol, Terminal, out_of_turns, sees};
 use bj_rules::import_misfit;

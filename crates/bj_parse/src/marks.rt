@@ -1,5 +1,5 @@
 ghost use Rattle.std.specs.Prelude.{◌≡◌, ◌<◌, [], IfOk, None as no_misfit};
-ghost use Rattle.bj_tree.specs.declared.types.TypeTree.{TypeTree};
+ghost use Rattle.bj_expr_tree.specs.declared.types.TypeTree.{TypeTree};
 ghost use Rattle.bj_grammar.specs.Given.{text_of, place_of};
 ghost use Rattle.bj_grammar.specs.Reader.{Found};
 ghost use Rattle.bj_expr.specs.Reading as types;
@@ -7,8 +7,8 @@ ghost use Rattle.bj_class.specs.Reading as reading;
 ghost use Rattle.bj_parse.specs.Early as spec;
 
 use crate::annotations::{AnnotationsEnd, annotations_end};
+use bj_base::NoMemory;
 use bj_class::{is_called, is_static_block, modifiers_at};
-use bj_core::NoMemory;
 use bj_expr::{Bounds, type_at};
 use bj_grammar::{Stop, Symbol, Terminal, sees};
 use bj_rules::{Misfit, Place, field_place, method_place, modifier_misfit};

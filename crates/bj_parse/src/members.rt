@@ -5,8 +5,8 @@ ghost use Rattle.bj_parse.specs.Parts as parts;
 
 use crate::Halt;
 use crate::marks::early_member;
+use bj_base::Seq;
 use bj_class::{ClassHead, member_at};
-use bj_core::Seq;
 use bj_expr::Bounds;
 use bj_grammar::{Stop, Symbol, Terminal, out_of_turns, sees};
 use bj_rules::member_misfit;

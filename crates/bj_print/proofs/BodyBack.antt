@@ -1,7 +1,7 @@
 -- Printed bodies are read again: a line a statement makes no other tokens.
 use Rattle.std.proofs.Common.{◌≡◌, ℕ, List, [], ◌∷◌, ◌++◌, map, Option, Some, None, refl, sym, ap, ◌∙◌, subst}
 use Rattle.std.specs.Prelude.{codes, option_map}
-use Rattle.bj_core.specs.declared.types.Span.{Span}
+use Rattle.bj_base.specs.declared.span.Span.{Span}
 use Rattle.bj_lex.specs.Grammar.{Spelled}
 use Rattle.bj_tree.specs.declared.stmt.StmtTree.{StmtTree, StmtTree-F, out-StmtTree, out-roll-StmtTree}
 use Rattle.bj_tree.specs.declared.stmt.StmtTree.TheVariants as stmt
@@ -11,9 +11,9 @@ use Rattle.bj_stmt.specs.Grammar.{Block, ConstructorBody}
 use Rattle.bj_class.specs.Grammar as g
 use Rattle.bj_class.specs.Grammar.{MaybeBody}
 use Rattle.bj_writer.specs.Pieces.{Space, Line, tokens_of}
-use Rattle.bj_print.specs.Exprs.{sign}
-use Rattle.bj_print.specs.Stmts.{stmt_pieces}
-use Rattle.bj_print.specs.Classes.{each, statement_line, lines_in_braces, body_pieces, body_form, maybe_body}
+use Rattle.bj_layout.specs.Exprs.{sign}
+use Rattle.bj_layout.specs.Stmts.{stmt_pieces}
+use Rattle.bj_layout.specs.Classes.{each, statement_line, lines_in_braces, body_pieces, body_form, maybe_body}
 use Rattle.bj_print.specs.Same.{unplaced_stmt, SameStmt}
 use Rattle.bj_print.proofs.Holds.{Back, tokens_append}
 use Rattle.bj_print.proofs.ExprTokens.{signed}

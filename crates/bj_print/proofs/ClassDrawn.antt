@@ -1,10 +1,10 @@
 -- The tokens of a printed file are those of the text that it was read from.
 use Rattle.std.proofs.Common.{◌≡◌, ◌≢◌, ℕ, suc, Bool, true, if◌then◌else◌, List, [], ◌∷◌, map, refl, sym, subst}
 use Rattle.std.specs.Prelude.{codes}
-use Rattle.bj_core.specs.declared.types.Span.{Span}
-use Rattle.bj_lex.specs.declared.token.TokenKind.TheVariants as kinds
+use Rattle.bj_base.specs.declared.span.Span.{Span}
+use Rattle.bj_token.specs.declared.token.TokenKind.TheVariants as kinds
 use Rattle.bj_lex.specs.Grammar.{Spelled}
-use Rattle.bj_tree.specs.declared.types.NamedPlace.{NamedPlace}
+use Rattle.bj_expr_tree.specs.declared.types.NamedPlace.{NamedPlace}
 use Rattle.bj_tree.specs.declared.class.Modifier.{Modifier}
 use Rattle.bj_tree.specs.declared.class.AnnotationTree.{AnnotationTree}
 use Rattle.bj_tree.specs.declared.class.ImportTree.{ImportTree}
@@ -17,8 +17,8 @@ use Rattle.bj_expr.proofs.Facts.{Each, each}
 use Rattle.bj_class.specs.Grammar as g
 use Rattle.bj_class.specs.Grammar.{MaybeStatic, NamesBy, MaybeNames, MaybeAll, Import, Imports, Annotation, Annotations, ModifierList, MaybeSuper, Head, Parameter, Parameters, Formals, ResultAt, MaybeBody, Member, Members, File, modifier_words, modifier_kind, class_tree}
 use Rattle.bj_writer.specs.Pieces.{Piece, Space, Line}
-use Rattle.bj_print.specs.Exprs.{keyword, sign, comma, each_behind}
-use Rattle.bj_print.specs.Classes.{name_piece, with_points, maybe_names, import_pieces, imports_pieces, annotation_pieces, modifier_word, modifier_pieces, prefix_pieces}
+use Rattle.bj_layout.specs.Exprs.{keyword, sign, comma, each_behind}
+use Rattle.bj_layout.specs.Classes.{name_piece, with_points, maybe_names, import_pieces, imports_pieces, annotation_pieces, modifier_word, modifier_pieces, prefix_pieces}
 use Rattle.bj_print.proofs.Drawn.{Drawn, AllDrawn, both, all_behind, all_none, all_next, Rows, rows_drawn, rows_one, rows_next}
 use Rattle.bj_print.proofs.DrawnTokens as drawn
 use Rattle.bj_print.proofs.Holds.{spelling_of}

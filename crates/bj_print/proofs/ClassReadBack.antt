@@ -5,8 +5,8 @@ use Rattle.bj_grammar.specs.Given.{text_of, place_of}
 use Rattle.bj_class.specs.Grammar.{File}
 use Rattle.bj_writer.specs.Pieces.{tokens_of, written}
 use Rattle.bj_writer.specs.Tokens.{IsToken}
-use Rattle.bj_parse.specs.Line.{most_nodes}
-use Rattle.bj_print.specs.Classes.{class_pieces}
+use Rattle.bj_line.specs.Line.{most_nodes}
+use Rattle.bj_layout.specs.Classes.{class_pieces}
 use Rattle.bj_print.specs.Printed.{IsClassText, ReadsAsClass}
 use Rattle.bj_print.proofs.Drawn.{tokens_drawn}
 use Rattle.bj_print.proofs.FileDrawn as drawn

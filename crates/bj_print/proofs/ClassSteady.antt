@@ -6,7 +6,7 @@ use Rattle.bj_tree.specs.declared.class.ImportTree.{ImportTree}
 use Rattle.bj_tree.specs.declared.class.ClassTree.{ClassTree}
 use Rattle.bj_tree.specs.declared.member.MemberTree.{MemberTree}
 use Rattle.bj_tree.specs.declared.member.MemberTree.TheVariants as m
-use Rattle.bj_tree.specs.Size.{most}
+use Rattle.bj_expr_tree.specs.Size.{most}
 use Rattle.bj_class.specs.Deep.{HighBody, HighMember, HighMembers}
 use Rattle.bj_rules.specs.Rules.{import_misfit, head_misfit, member_misfit}
 use Rattle.bj_parse.specs.Class.{ImportsFit, MembersFit, Fits}

@@ -2,7 +2,7 @@
 use Rattle.std.proofs.Common.{◌≡◌, List, [], ◌∷◌, ◌++◌, map, refl, sym, subst}
 use Rattle.bj_lex.specs.Grammar.{Spelled}
 use Rattle.bj_writer.specs.Pieces.{Piece, Mark, Space, Line, tokens_of}
-use Rattle.bj_print.specs.Exprs.{each_behind, separated}
+use Rattle.bj_layout.specs.Exprs.{each_behind, separated}
 
 module _ (P : Spelled → Type 0) where
   abbrev pub Drawn : List Piece → Type 0

@@ -1,9 +1,9 @@
 -- Printed tokens are those of the text that the tree was read from.
 use Rattle.std.proofs.Common.{◌≡◌, ◌≢◌, ℕ, zero, suc, true, List, [], ◌∷◌, refl, sym, ◌∙◌, subst, ◌≤◌, le_refl, arith}
-use Rattle.bj_core.specs.declared.types.Span.{Span}
-use Rattle.bj_lex.specs.declared.token.TokenKind.TheVariants as kinds
+use Rattle.bj_base.specs.declared.span.Span.{Span}
+use Rattle.bj_token.specs.declared.token.TokenKind.TheVariants as kinds
 use Rattle.bj_lex.specs.Grammar.{Spelled}
-use Rattle.bj_tree.specs.declared.types.TypeName.{TypeName}
+use Rattle.bj_expr_tree.specs.declared.types.TypeName.{TypeName}
 use Rattle.bj_grammar.specs.declared.terminal.Terminal.{Terminal}
 use Rattle.bj_grammar.specs.declared.terminal.Terminal.TheVariants as t
 use Rattle.bj_grammar.specs.Terminal.{terminal, among, keyword_spelling, sign_spelling}
@@ -11,14 +11,14 @@ use Rattle.bj_grammar.proofs.Terminals.{kind_for}
 use Rattle.bj_grammar.specs.Reader.{Text}
 use Rattle.bj_expr.specs.Grammar.{ops, binary_op, assigns, assign_op, step_ops, step_op, negations, negation_op, literal_words, leasts, literal_kind, type_words, type_name, Dims, no_pair, pair, TypeAt, named, one_more}
 use Rattle.bj_expr.proofs.Facts.{Each, each}
-use Rattle.bj_print.specs.Exprs.{unary_sign, step_sign, binary_sign, assign_sign, literal_token}
+use Rattle.bj_layout.specs.Exprs.{unary_sign, step_sign, binary_sign, assign_sign, literal_token}
 use Rattle.bj_print.proofs.Holds.{spelling_of}
 use Rattle.bj_print.proofs.Spellings.{sign_has, keyword_has, other_has}
-use Rattle.bj_print.specs.Exprs as print
+use Rattle.bj_layout.specs.Exprs as print
 use Rattle.bj_print.proofs.Drawn.{Drawn, both}
 use Rattle.bj_writer.specs.Pieces.{Piece, Mark}
-use Rattle.bj_tree.specs.declared.types.TypeName.TheVariants as names
-use Rattle.bj_tree.specs.declared.types.TypeTree.{TypeTree}
+use Rattle.bj_expr_tree.specs.declared.types.TypeName.TheVariants as names
+use Rattle.bj_expr_tree.specs.declared.types.TypeTree.{TypeTree}
 
 one_more_is : (b : ℕ) → one_more b ≤ suc b
 one_more_is b = omega arith

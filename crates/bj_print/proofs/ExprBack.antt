@@ -1,7 +1,7 @@
 -- Printed expressions are found again.
 use Rattle.std.proofs.Common.{ℕ, suc, List}
-use Rattle.bj_core.specs.declared.types.Span.{Span}
-use Rattle.bj_tree.specs.declared.expr.ExprTree.{ExprTree}
+use Rattle.bj_base.specs.declared.span.Span.{Span}
+use Rattle.bj_expr_tree.specs.declared.expr.ExprTree.{ExprTree}
 use Rattle.bj_grammar.specs.Reader.{Text}
 use Rattle.bj_grammar.specs.Terminal.{terminal}
 use Rattle.bj_expr.specs.Grammar as g

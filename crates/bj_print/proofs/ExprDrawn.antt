@@ -1,21 +1,21 @@
 -- The tokens of a printed expression are those of the text that it was read from.
 use Rattle.std.proofs.Common.{◌≡◌, ◌≢◌, ℕ, suc, List, [], ◌∷◌, ◌++◌, map, refl, sym, ap, ◌∙◌, subst, le_refl}
 use Rattle.std.specs.Prelude.{codes}
-use Rattle.bj_core.specs.declared.types.Span.{Span}
-use Rattle.bj_lex.specs.declared.token.TokenKind.TheVariants as kinds
+use Rattle.bj_base.specs.declared.span.Span.{Span}
+use Rattle.bj_token.specs.declared.token.TokenKind.TheVariants as kinds
 use Rattle.bj_lex.specs.Grammar.{Spelled}
-use Rattle.bj_tree.specs.declared.expr.UnaryOp.TheVariants as unaries
-use Rattle.bj_tree.specs.declared.expr.ExprTree.{ExprTree}
+use Rattle.bj_expr_tree.specs.declared.expr.UnaryOp.TheVariants as unaries
+use Rattle.bj_expr_tree.specs.declared.expr.ExprTree.{ExprTree}
 use Rattle.bj_grammar.specs.declared.terminal.Terminal.TheVariants as t
 use Rattle.bj_grammar.specs.Terminal.{terminal}
 use Rattle.bj_grammar.specs.Reader.{Text}
 use Rattle.bj_expr.specs.Grammar as g
 use Rattle.bj_expr.specs.Grammar.{Expression, Conditional, Level, Unary, Plain, Postfix, Selected, Primary, Sizes, Values, Initializers, Initializer, Args, Exprs, literal_kind, type_tree}
 use Rattle.bj_writer.specs.Pieces.{Piece, Space}
-use Rattle.bj_print.specs.Exprs.{expr_pieces, sign, comma, in_parens, in_brackets, in_braces, arguments, each_behind, with_commas, pairs, type_pieces}
+use Rattle.bj_layout.specs.Exprs.{expr_pieces, sign, comma, in_parens, in_brackets, in_braces, arguments, each_behind, with_commas, pairs, type_pieces}
 use Rattle.bj_print.proofs.Drawn.{Drawn, AllDrawn, both, all_one, all_next, Rows, rows_drawn, rows_none, rows_one, rows_next}
 use Rattle.bj_print.proofs.DrawnTokens as drawn
-use Rattle.bj_print.proofs.ExprPieces as w
+use Rattle.bj_layout.proofs.ExprPieces as w
 use Rattle.bj_print.proofs.Holds.{spelling_of}
 
 module _ (P : Spelled → Type 0) (place : ℕ → Span) (s : Text) (given : (x : ℕ) → terminal (s x) ≢ t.Other → P (spelling_of (s x))) where

@@ -1,15 +1,15 @@
 -- Induction over expressions by the forms as they are built.
 use Rattle.std.proofs.Common.{ℕ, List, [], ◌∷◌, map, sym, subst}
-use Rattle.bj_core.specs.declared.types.Span.{Span}
-use Rattle.bj_tree.specs.declared.types.TypeTree.{TypeTree}
-use Rattle.bj_tree.specs.declared.expr.LiteralKind.{LiteralKind}
-use Rattle.bj_tree.specs.declared.expr.StepOp.{StepOp}
-use Rattle.bj_tree.specs.declared.expr.UnaryOp.{UnaryOp}
-use Rattle.bj_tree.specs.declared.expr.AssignOp.{AssignOp}
-use Rattle.bj_tree.specs.declared.expr.BinaryOp.{BinaryOp}
-use Rattle.bj_tree.specs.declared.expr.ExprTree.{ExprTree, roll-ExprTree, map-ExprTree, ind-ExprTree}
-use Rattle.bj_tree.specs.declared.expr.ExprTree.TheVariants as e
-use Rattle.bj_tree.specs.declared.expr.ExprTree.TheOpen.{ExprTree-F}
+use Rattle.bj_base.specs.declared.span.Span.{Span}
+use Rattle.bj_expr_tree.specs.declared.types.TypeTree.{TypeTree}
+use Rattle.bj_expr_tree.specs.declared.expr.LiteralKind.{LiteralKind}
+use Rattle.bj_expr_tree.specs.declared.expr.StepOp.{StepOp}
+use Rattle.bj_expr_tree.specs.declared.expr.UnaryOp.{UnaryOp}
+use Rattle.bj_expr_tree.specs.declared.expr.AssignOp.{AssignOp}
+use Rattle.bj_expr_tree.specs.declared.expr.BinaryOp.{BinaryOp}
+use Rattle.bj_expr_tree.specs.declared.expr.ExprTree.{ExprTree, roll-ExprTree, map-ExprTree, ind-ExprTree}
+use Rattle.bj_expr_tree.specs.declared.expr.ExprTree.TheVariants as e
+use Rattle.bj_expr_tree.specs.declared.expr.ExprTree.TheOpen.{ExprTree-F}
 
 abbrev pub Every : (ExprTree → Type 0) → List ExprTree → Type 0
 Every P [] = Unit {0}

@@ -1,13 +1,13 @@
 -- What the grammar of expressions promises for printed ones: each is found again.
 use Rattle.std.proofs.Common.{◌≡◌, ℕ, List, map}
-use Rattle.bj_core.specs.declared.types.Span.{Span}
-use Rattle.bj_tree.specs.declared.types.TypeTree.{TypeTree}
-use Rattle.bj_tree.specs.declared.expr.ExprTree.{ExprTree}
+use Rattle.bj_base.specs.declared.span.Span.{Span}
+use Rattle.bj_expr_tree.specs.declared.types.TypeTree.{TypeTree}
+use Rattle.bj_expr_tree.specs.declared.expr.ExprTree.{ExprTree}
 use Rattle.bj_grammar.specs.Reader.{Text}
 use Rattle.bj_expr.specs.Grammar.{Dims, TypeAt, Expression, Unary, Initializer, Args}
 use Rattle.bj_writer.specs.Pieces.{Piece, tokens_of}
 use Rattle.bj_print.specs.Same.{unplaced_expr, unplaced_type, SameExpr}
-use Rattle.bj_print.specs.Exprs.{expr_pieces, type_pieces, pairs, with_commas}
+use Rattle.bj_layout.specs.Exprs.{expr_pieces, type_pieces, pairs, with_commas}
 use Rattle.bj_print.proofs.Holds.{Holds, ends, Prints}
 
 abbrev pub SameExprs : List ExprTree → List ExprTree → Type 0

@@ -1,16 +1,16 @@
 -- Forms of which each part differs only in places.
 use Rattle.std.proofs.Common.{◌≡◌, ℕ, List, map, sym, ap, ◌∙◌}
-use Rattle.bj_core.specs.declared.types.Span.{Span}
-use Rattle.bj_tree.specs.declared.types.TypeTree.{TypeTree}
-use Rattle.bj_tree.specs.declared.expr.LiteralKind.{LiteralKind}
-use Rattle.bj_tree.specs.declared.expr.StepOp.{StepOp}
-use Rattle.bj_tree.specs.declared.expr.UnaryOp.{UnaryOp}
-use Rattle.bj_tree.specs.declared.expr.AssignOp.{AssignOp}
-use Rattle.bj_tree.specs.declared.expr.BinaryOp.{BinaryOp}
-use Rattle.bj_tree.specs.declared.expr.ExprTree.{ExprTree}
-use Rattle.bj_tree.specs.declared.expr.ExprTree.TheVariants as e
-use Rattle.bj_tree.specs.declared.expr.ExprTree.TheOpen.{ExprTree-F}
-use Rattle.bj_tree.specs.declared.expr.ExprTree.TheFolds.{fold-roll-ExprTree}
+use Rattle.bj_base.specs.declared.span.Span.{Span}
+use Rattle.bj_expr_tree.specs.declared.types.TypeTree.{TypeTree}
+use Rattle.bj_expr_tree.specs.declared.expr.LiteralKind.{LiteralKind}
+use Rattle.bj_expr_tree.specs.declared.expr.StepOp.{StepOp}
+use Rattle.bj_expr_tree.specs.declared.expr.UnaryOp.{UnaryOp}
+use Rattle.bj_expr_tree.specs.declared.expr.AssignOp.{AssignOp}
+use Rattle.bj_expr_tree.specs.declared.expr.BinaryOp.{BinaryOp}
+use Rattle.bj_expr_tree.specs.declared.expr.ExprTree.{ExprTree}
+use Rattle.bj_expr_tree.specs.declared.expr.ExprTree.TheVariants as e
+use Rattle.bj_expr_tree.specs.declared.expr.ExprTree.TheOpen.{ExprTree-F}
+use Rattle.bj_expr_tree.specs.declared.expr.ExprTree.TheFolds.{fold-roll-ExprTree}
 use Rattle.bj_print.specs.Same.{nowhere, unplaced_type, unplaced_expr_form, unplaced_expr, SameExpr}
 use Rattle.bj_print.proofs.ExprLaws.{SameExprs, SameType}
 

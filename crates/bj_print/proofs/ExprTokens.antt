@@ -1,18 +1,18 @@
 -- The tokens of each form of expression.
 use Rattle.std.proofs.Common.{◌≡◌, ℕ, List, [], ◌∷◌, ◌++◌, map, append_assoc, ap, ◌∙◌}
 use Rattle.std.specs.Prelude.{codes}
-use Rattle.bj_lex.specs.declared.token.TokenKind.TheVariants as kinds
+use Rattle.bj_token.specs.declared.token.TokenKind.TheVariants as kinds
 use Rattle.bj_lex.specs.Grammar.{Spelled}
-use Rattle.bj_core.specs.declared.types.Span.{Span}
-use Rattle.bj_tree.specs.declared.types.TypeTree.{TypeTree}
-use Rattle.bj_tree.specs.declared.expr.ExprTree.{ExprTree}
-use Rattle.bj_tree.specs.declared.expr.ExprTree.TheVariants as e
+use Rattle.bj_base.specs.declared.span.Span.{Span}
+use Rattle.bj_expr_tree.specs.declared.types.TypeTree.{TypeTree}
+use Rattle.bj_expr_tree.specs.declared.expr.ExprTree.{ExprTree}
+use Rattle.bj_expr_tree.specs.declared.expr.ExprTree.TheVariants as e
 use Rattle.bj_writer.specs.Pieces.{Piece, Space, tokens_of}
-use Rattle.bj_print.specs.Exprs.{keyword, each_behind, in_brackets, in_braces, pairs, type_pieces, expr_pieces}
+use Rattle.bj_layout.specs.Exprs.{keyword, each_behind, in_brackets, in_braces, pairs, type_pieces, expr_pieces}
 use Rattle.bj_print.proofs.ExprLaws.{list_pieces}
 use Rattle.bj_print.proofs.Holds.{tokens_append}
-use Rattle.bj_print.proofs.ExprPieces as forms
-use Rattle.bj_print.proofs.Writing.{map_both}
+use Rattle.bj_layout.proofs.ExprPieces as forms
+use Rattle.bj_layout.proofs.Writing.{map_both}
 
 abbrev pub worded : List ℕ → Spelled
 worded units = (kinds.Word, units)

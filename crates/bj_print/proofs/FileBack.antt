@@ -1,9 +1,9 @@
 -- Printed files with their classes are read again [JLS 7.3, 8.1, 9.1].
 use Rattle.std.proofs.Common.{◌≡◌, ℕ, suc, List, [], ◌∷◌, ◌++◌, map, append_assoc, Option, None, refl, sym, ap, ◌∙◌, subst}
 use Rattle.std.specs.Prelude.{codes, option_map}
-use Rattle.bj_core.specs.declared.types.Span.{Span}
+use Rattle.bj_base.specs.declared.span.Span.{Span}
 use Rattle.bj_lex.specs.Grammar.{Spelled}
-use Rattle.bj_tree.specs.declared.types.NamedPlace.{NamedPlace}
+use Rattle.bj_expr_tree.specs.declared.types.NamedPlace.{NamedPlace}
 use Rattle.bj_tree.specs.declared.class.Modifier.{Modifier}
 use Rattle.bj_tree.specs.declared.class.AnnotationTree.{AnnotationTree}
 use Rattle.bj_tree.specs.declared.class.ImportTree.{ImportTree}
@@ -17,7 +17,7 @@ use Rattle.bj_class.specs.declared.head.ClassHead.{ClassHead}
 use Rattle.bj_class.specs.Grammar as g
 use Rattle.bj_class.specs.Grammar.{Head, File, class_tree}
 use Rattle.bj_writer.specs.Pieces.{tokens_of}
-use Rattle.bj_print.specs.Classes.{annotation_pieces, modifier_pieces, class_word, super_word, maybe_super, maybe_names, imports_pieces, member_pieces, class_pieces}
+use Rattle.bj_layout.specs.Classes.{annotation_pieces, modifier_pieces, class_word, super_word, maybe_super, maybe_names, imports_pieces, member_pieces, class_pieces}
 use Rattle.bj_print.specs.Same.{nowhere, unplaced_name, unplaced_modifier, unplaced_annotation, unplaced_import, unplaced_member, SameClass}
 use Rattle.bj_print.proofs.Holds.{Back, Prints, tokens_append}
 use Rattle.bj_print.proofs.ExprLaws.{ExprLaws}

@@ -1,11 +1,11 @@
 -- The tokens of printed members and of a printed file are those of the text that they were read from.
 use Rattle.std.proofs.Common.{◌≡◌, ◌≢◌, ℕ, suc, Bool, true, false, if◌then◌else◌, List, [], ◌∷◌, map, Option, refl, sym, ap, ◌∙◌, subst, le_refl}
 use Rattle.std.specs.Prelude.{codes}
-use Rattle.bj_core.specs.declared.types.Span.{Span}
-use Rattle.bj_lex.specs.declared.token.TokenKind.TheVariants as kinds
+use Rattle.bj_base.specs.declared.span.Span.{Span}
+use Rattle.bj_token.specs.declared.token.TokenKind.TheVariants as kinds
 use Rattle.bj_lex.specs.Grammar.{Spelled}
-use Rattle.bj_tree.specs.declared.types.NamedPlace.{NamedPlace}
-use Rattle.bj_tree.specs.declared.types.TypeTree.{TypeTree}
+use Rattle.bj_expr_tree.specs.declared.types.NamedPlace.{NamedPlace}
+use Rattle.bj_expr_tree.specs.declared.types.TypeTree.{TypeTree}
 use Rattle.bj_tree.specs.declared.stmt.StmtTree.{StmtTree}
 use Rattle.bj_tree.specs.declared.class.ImportTree.{ImportTree}
 use Rattle.bj_tree.specs.declared.class.ClassTree.{ClassTree}
@@ -20,10 +20,10 @@ use Rattle.bj_class.specs.Grammar as g
 use Rattle.bj_class.specs.Grammar.{MaybeStatic, NamesBy, MaybeNames, MaybeAll, Import, Imports, Annotation, Annotations, ModifierList, MaybeSuper, Head, Parameter, Parameters, Formals, ResultAt, MaybeBody, Member, Members, File, modifier_words, modifier_kind, class_tree}
 use Rattle.bj_class.specs.declared.head.ClassHead.{ClassHead}
 use Rattle.bj_writer.specs.Pieces.{Line}
-use Rattle.bj_print.specs.Exprs.{sign, comma, with_commas, type_pieces, each_behind}
-use Rattle.bj_print.specs.Stmts.{maybe_final, variable_pieces, stmt_pieces, semicolon}
-use Rattle.bj_print.specs.Classes as c
-use Rattle.bj_print.specs.Classes.{name_piece, name_list, with_points, maybe_names, import_pieces, imports_pieces, annotation_pieces, expected_pieces, modifier_word, modifier_pieces, prefix_pieces, parameter_pieces, formals, statement_line, lines_in_braces, body_pieces, maybe_body, result_pieces, member_pieces, members_behind, members_pieces, is_field, maybe_super, head_pieces, class_pieces}
+use Rattle.bj_layout.specs.Exprs.{sign, comma, with_commas, type_pieces, each_behind}
+use Rattle.bj_layout.specs.Stmts.{maybe_final, variable_pieces, stmt_pieces, semicolon}
+use Rattle.bj_layout.specs.Classes as c
+use Rattle.bj_layout.specs.Classes.{name_piece, name_list, with_points, maybe_names, import_pieces, imports_pieces, annotation_pieces, expected_pieces, modifier_word, modifier_pieces, prefix_pieces, parameter_pieces, formals, statement_line, lines_in_braces, body_pieces, maybe_body, result_pieces, member_pieces, members_behind, members_pieces, is_field, maybe_super, head_pieces, class_pieces}
 use Rattle.bj_print.proofs.Drawn.{Drawn, AllDrawn, both, all_behind, all_none, all_next, Rows, rows_drawn, rows_one, rows_next}
 use Rattle.bj_print.proofs.DrawnTokens as drawn
 use Rattle.bj_print.proofs.StmtDrawn as stmts

@@ -2,11 +2,11 @@
 use Rattle.std.proofs.Common.{◌≡◌, ℕ, Bool, true, false, if◌then◌else◌, List, [], ◌∷◌, ◌++◌, map, Option, Some, None, option_map, refl, sym, ap, ◌∙◌}
 use Rattle.std.specs.Prelude.{◌&&◌, ◌||◌, not, nat_lt}
 use Rattle.std.specs.List.{list_any}
-use Rattle.bj_core.specs.declared.types.Span.{Span}
-use Rattle.bj_core.specs.declared.fault.FaultCode.{FaultCode}
-use Rattle.bj_core.specs.declared.fault.FaultCode.TheVariants as codes
-use Rattle.bj_tree.specs.declared.types.NamedPlace.{NamedPlace}
-use Rattle.bj_tree.specs.declared.expr.ExprTree.{ExprTree, out-ExprTree}
+use Rattle.bj_base.specs.declared.span.Span.{Span}
+use Rattle.bj_base.specs.declared.fault.FaultCode.{FaultCode}
+use Rattle.bj_base.specs.declared.fault.FaultCode.TheVariants as codes
+use Rattle.bj_expr_tree.specs.declared.types.NamedPlace.{NamedPlace}
+use Rattle.bj_expr_tree.specs.declared.expr.ExprTree.{ExprTree, out-ExprTree}
 use Rattle.bj_tree.specs.declared.stmt.VariableTree.{VariableTree}
 use Rattle.bj_tree.specs.declared.stmt.StmtTree.{StmtTree, out-StmtTree}
 use Rattle.bj_tree.specs.declared.class.AnnotationTree.{AnnotationTree}
@@ -17,7 +17,8 @@ use Rattle.bj_tree.specs.declared.class.ModifierKind.{ModifierKind}
 use Rattle.bj_tree.specs.declared.class.ModifierKind.TheVariants as mk
 use Rattle.bj_tree.specs.declared.member.MemberTree.{MemberTree}
 use Rattle.bj_tree.specs.declared.member.MemberTree.TheVariants as m
-use Rattle.bj_tree.specs.Count.{nodes_of, nodes_of_expr}
+use Rattle.bj_expr_tree.specs.Count.{nodes_of_expr}
+use Rattle.bj_tree.specs.Count.{nodes_of}
 use Rattle.bj_rules.specs.declared.misfit.Misfit.{Misfit}
 use Rattle.bj_rules.specs.declared.place.Place.{Place}
 use Rattle.bj_rules.specs.Imports.{is_known}

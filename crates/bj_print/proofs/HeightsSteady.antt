@@ -1,10 +1,10 @@
 -- How high a statement is does not depend on places.
 use Rattle.std.proofs.Common.{◌≡◌, ℕ, suc, List, map, Option, option_map, refl, sym, ap, ◌∙◌}
 use Rattle.std.specs.Prelude.{max, unwrap_or}
-use Rattle.bj_tree.specs.declared.expr.ExprTree.{ExprTree}
+use Rattle.bj_expr_tree.specs.declared.expr.ExprTree.{ExprTree}
 use Rattle.bj_tree.specs.declared.stmt.VariableTree.{VariableTree}
 use Rattle.bj_tree.specs.declared.stmt.StmtTree.{StmtTree, StmtTree-F}
-use Rattle.bj_tree.specs.Size.{most, height_of}
+use Rattle.bj_expr_tree.specs.Size.{most, height_of}
 use Rattle.bj_stmt.specs.Heights.{variable_height, stmt_form, stmt_height}
 use Rattle.bj_print.specs.Same.{unplaced_expr, unplaced_variable, unplaced_stmt, SameStmt}
 use Rattle.bj_print.proofs.Measures.{each_steady, maybe_steady}

@@ -1,7 +1,7 @@
 -- Printed tokens in a text, and what it is for them to be read again.
 use Rattle.std.proofs.Common.{◌≡◌, ℕ, suc, ◌+◌, List, [], ◌∷◌, ◌++◌, length, refl, ap, arith}
-use Rattle.bj_lex.specs.declared.token.TokenKind.{TokenKind}
-use Rattle.bj_lex.specs.declared.token.Token.{Token}
+use Rattle.bj_token.specs.declared.token.TokenKind.{TokenKind}
+use Rattle.bj_token.specs.declared.token.Token.{Token}
 use Rattle.bj_lex.specs.Grammar.{Spelled}
 use Rattle.bj_grammar.specs.Terminal.{terminal, terminal_by}
 use Rattle.bj_grammar.specs.Reader.{Text}

@@ -2,15 +2,15 @@
 use Rattle.std.proofs.Common.{◌≡◌, ℕ, Bool, if◌then◌else◌, List, [], ◌∷◌, map, refl, sym, ap, ◌∙◌, subst}
 use Rattle.std.specs.Prelude.{codes}
 use Rattle.std.proofs.lemmas.List.{append-nil}
-use Rattle.bj_core.specs.declared.types.Span.{Span}
-use Rattle.bj_tree.specs.declared.types.NamedPlace.{NamedPlace}
+use Rattle.bj_base.specs.declared.span.Span.{Span}
+use Rattle.bj_expr_tree.specs.declared.types.NamedPlace.{NamedPlace}
 use Rattle.bj_tree.specs.declared.class.ImportTree.{ImportTree}
 use Rattle.bj_grammar.specs.Reader.{Text}
 use Rattle.bj_class.specs.Grammar as g
 use Rattle.bj_class.specs.Grammar.{Import, Imports}
 use Rattle.bj_writer.specs.Pieces.{Piece, Space, Line, tokens_of}
-use Rattle.bj_print.specs.Exprs.{keyword, sign}
-use Rattle.bj_print.specs.Classes.{with_points, import_pieces, imports_pieces, each}
+use Rattle.bj_layout.specs.Exprs.{keyword, sign}
+use Rattle.bj_layout.specs.Classes.{with_points, import_pieces, imports_pieces, each}
 use Rattle.bj_print.specs.Same.{nowhere, unplaced_name, unplaced_import}
 use Rattle.bj_print.proofs.Holds.{Back, tokens_append}
 use Rattle.bj_print.proofs.Again.{Reads, reads_mark, reads_last, reads_as, respelled, reads_parts}

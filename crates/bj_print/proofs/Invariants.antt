@@ -1,11 +1,11 @@
 -- The height and the nodes of an expression do not depend on places.
 use Rattle.std.proofs.Common.{◌≡◌, ℕ, suc, ◌+◌, List, [], ◌∷◌, map, refl, sym, ap, ◌∙◌}
 use Rattle.std.specs.Prelude.{max}
-use Rattle.bj_tree.specs.declared.expr.ExprTree.{ExprTree}
-use Rattle.bj_tree.specs.Size.{most, height_of}
-use Rattle.bj_tree.specs.Count.{total, nodes_of_expr}
-use Rattle.bj_tree.proofs.Heights.{literal_height, this_height, paren_height, name_height, field_height, superfield_height, call_height, methodcall_height, supercall_height, index_height, new_height, newarray_height, newvalues_height, braces_height, postfix_height, prefix_height, unary_height, cast_height, binary_height, instanceof_height, conditional_height, assign_height}
-use Rattle.bj_tree.proofs.ExprNodes.{literal_nodes, this_nodes, paren_nodes, name_nodes, field_nodes, superfield_nodes, call_nodes, methodcall_nodes, supercall_nodes, index_nodes, new_nodes, newarray_nodes, newvalues_nodes, braces_nodes, postfix_nodes, prefix_nodes, unary_nodes, cast_nodes, binary_nodes, instanceof_nodes, conditional_nodes, assign_nodes}
+use Rattle.bj_expr_tree.specs.declared.expr.ExprTree.{ExprTree}
+use Rattle.bj_expr_tree.specs.Size.{most, height_of}
+use Rattle.bj_expr_tree.specs.Count.{total, nodes_of_expr}
+use Rattle.bj_expr_tree.proofs.Heights.{literal_height, this_height, paren_height, name_height, field_height, superfield_height, call_height, methodcall_height, supercall_height, index_height, new_height, newarray_height, newvalues_height, braces_height, postfix_height, prefix_height, unary_height, cast_height, binary_height, instanceof_height, conditional_height, assign_height}
+use Rattle.bj_expr_tree.proofs.ExprNodes.{literal_nodes, this_nodes, paren_nodes, name_nodes, field_nodes, superfield_nodes, call_nodes, methodcall_nodes, supercall_nodes, index_nodes, new_nodes, newarray_nodes, newvalues_nodes, braces_nodes, postfix_nodes, prefix_nodes, unary_nodes, cast_nodes, binary_nodes, instanceof_nodes, conditional_nodes, assign_nodes}
 use Rattle.bj_print.specs.Same.{nowhere, unplaced_type, unplaced_expr, SameExpr}
 use Rattle.bj_print.proofs.ExprForms.{Every, by_forms}
 use Rattle.bj_print.proofs.ExprSame.{unplaced_literal, unplaced_this, unplaced_paren, unplaced_name, unplaced_field, unplaced_super_field, unplaced_call, unplaced_method_call, unplaced_super_call, unplaced_index, unplaced_new, unplaced_new_array, unplaced_new_values, unplaced_braces, unplaced_postfix, unplaced_prefix, unplaced_unary, unplaced_cast, unplaced_binary, unplaced_instance_of, unplaced_conditional, unplaced_assign}

@@ -1,17 +1,17 @@
 -- Printed operators between operands are read again [JLS 15.17 to 15.26].
 use Rattle.std.proofs.Common.{◌≡◌, ℕ, suc, true, refl, ap, ◌∙◌}
 use Rattle.std.specs.Prelude.{codes}
-use Rattle.bj_core.specs.declared.types.Span.{Span}
-use Rattle.bj_tree.specs.declared.types.TypeTree.{TypeTree}
-use Rattle.bj_tree.specs.declared.expr.ExprTree.{ExprTree}
-use Rattle.bj_tree.specs.declared.expr.ExprTree.TheVariants as e
+use Rattle.bj_base.specs.declared.span.Span.{Span}
+use Rattle.bj_expr_tree.specs.declared.types.TypeTree.{TypeTree}
+use Rattle.bj_expr_tree.specs.declared.expr.ExprTree.{ExprTree}
+use Rattle.bj_expr_tree.specs.declared.expr.ExprTree.TheVariants as e
 use Rattle.bj_grammar.specs.declared.terminal.Terminal.{Terminal}
 use Rattle.bj_grammar.specs.Terminal.{terminal, among}
 use Rattle.bj_grammar.specs.Reader.{Text}
 use Rattle.bj_expr.specs.Grammar as g
 use Rattle.bj_expr.specs.Grammar.{ops, ranks, is_relational, binary_op, assigns, assign_op, Expression, Conditional, Level, Unary}
-use Rattle.bj_print.specs.Exprs.{expr_pieces}
-use Rattle.bj_print.proofs.ExprPieces as forms
+use Rattle.bj_layout.specs.Exprs.{expr_pieces}
+use Rattle.bj_layout.proofs.ExprPieces as forms
 use Rattle.bj_print.proofs.ExprTokens.{keyed, signed}
 use Rattle.bj_print.proofs.ExprSame.{same_binary, same_instance_of, same_conditional, same_assign}
 use Rattle.bj_print.proofs.PrintedOperators.{binary_text, binary_printed, assign_text, assign_printed, among_again}

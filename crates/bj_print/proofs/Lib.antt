@@ -5,10 +5,6 @@ pub mod Again
 pub mod Found
 pub mod Terminals
 pub mod PrintedOperators
-pub mod Writing
-pub mod ExprPieces
-pub mod StmtParts
-pub mod ClassPieces
 pub mod ExprTokens
 pub mod ExprSame
 pub mod ExprForms

@@ -1,14 +1,14 @@
 -- Printed lists of expressions are read again.
 use Rattle.std.proofs.Common.{◌≡◌, ℕ, suc, List, [], ◌∷◌, ◌++◌, refl, sym, subst}
 use Rattle.std.specs.Prelude.{codes}
-use Rattle.bj_core.specs.declared.types.Span.{Span}
-use Rattle.bj_tree.specs.declared.expr.ExprTree.{ExprTree}
+use Rattle.bj_base.specs.declared.span.Span.{Span}
+use Rattle.bj_expr_tree.specs.declared.expr.ExprTree.{ExprTree}
 use Rattle.bj_grammar.specs.declared.terminal.Terminal.TheVariants as marks
 use Rattle.bj_grammar.specs.Terminal.{terminal}
 use Rattle.bj_grammar.specs.Reader.{Text}
 use Rattle.bj_expr.specs.Grammar as g
 use Rattle.bj_expr.specs.Grammar.{Expression, Sizes, Values, Initializers, Initializer, Args, Exprs}
-use Rattle.bj_print.specs.Exprs.{comma, expr_pieces}
+use Rattle.bj_layout.specs.Exprs.{comma, expr_pieces}
 use Rattle.bj_print.specs.Same.{unplaced_expr}
 use Rattle.bj_print.proofs.Holds.{Back}
 use Rattle.bj_print.proofs.ExprLaws.{SameExprs, list_pieces}

@@ -1,10 +1,10 @@
 -- Printed members are read again [JLS 8.1.6, 9.1.4].
 use Rattle.std.proofs.Common.{◌≡◌, ℕ, Bool, true, false, if◌then◌else◌, List, [], ◌∷◌, ◌++◌, map, Option, None, refl, sym, ap, ◌∙◌, subst}
 use Rattle.std.specs.Prelude.{codes}
-use Rattle.bj_core.specs.declared.types.Span.{Span}
+use Rattle.bj_base.specs.declared.span.Span.{Span}
 use Rattle.bj_lex.specs.Grammar.{Spelled}
-use Rattle.bj_tree.specs.declared.types.NamedPlace.{NamedPlace}
-use Rattle.bj_tree.specs.declared.types.TypeTree.{TypeTree}
+use Rattle.bj_expr_tree.specs.declared.types.NamedPlace.{NamedPlace}
+use Rattle.bj_expr_tree.specs.declared.types.TypeTree.{TypeTree}
 use Rattle.bj_tree.specs.declared.stmt.VariableTree.{VariableTree}
 use Rattle.bj_tree.specs.declared.stmt.StmtTree.{StmtTree}
 use Rattle.bj_tree.specs.declared.class.Modifier.{Modifier}
@@ -17,9 +17,9 @@ use Rattle.bj_stmt.specs.Grammar.{named, Variables}
 use Rattle.bj_class.specs.Grammar as g
 use Rattle.bj_class.specs.Grammar.{Member, Members}
 use Rattle.bj_writer.specs.Pieces.{Piece, Line, tokens_of}
-use Rattle.bj_print.specs.Exprs.{comma, keyword, with_commas, type_pieces}
-use Rattle.bj_print.specs.Stmts.{variable_pieces}
-use Rattle.bj_print.specs.Classes.{prefix_pieces, each, result_pieces, formals, maybe_names, is_field, member_pieces, members_behind, members_pieces}
+use Rattle.bj_layout.specs.Exprs.{comma, keyword, with_commas, type_pieces}
+use Rattle.bj_layout.specs.Stmts.{variable_pieces}
+use Rattle.bj_layout.specs.Classes.{prefix_pieces, each, result_pieces, formals, maybe_names, is_field, member_pieces, members_behind, members_pieces}
 use Rattle.bj_print.specs.Same.{nowhere, unplaced_member}
 use Rattle.bj_print.proofs.Holds.{Back, tokens_append}
 use Rattle.bj_print.proofs.ExprLaws.{ExprLaws}

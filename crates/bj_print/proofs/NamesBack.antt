@@ -1,10 +1,10 @@
 -- Printed names, and words that may be missing, are read again.
 use Rattle.std.proofs.Common.{◌≡◌, ℕ, suc, Bool, if◌then◌else◌, List, [], ◌∷◌, ◌++◌, Option, Some, None, refl, sym, ap, ◌∙◌, subst}
 use Rattle.std.specs.Prelude.{codes, option_map}
-use Rattle.bj_core.specs.declared.types.Span.{Span}
-use Rattle.bj_lex.specs.declared.token.TokenKind.TheVariants as kinds
-use Rattle.bj_lex.specs.declared.token.Token.{Token}
-use Rattle.bj_tree.specs.declared.types.NamedPlace.{NamedPlace}
+use Rattle.bj_base.specs.declared.span.Span.{Span}
+use Rattle.bj_token.specs.declared.token.TokenKind.TheVariants as kinds
+use Rattle.bj_token.specs.declared.token.Token.{Token}
+use Rattle.bj_expr_tree.specs.declared.types.NamedPlace.{NamedPlace}
 use Rattle.bj_grammar.specs.declared.terminal.Terminal.{Terminal}
 use Rattle.bj_grammar.specs.declared.terminal.Terminal.TheVariants as marks
 use Rattle.bj_grammar.specs.Terminal.{terminal, terminal_by}
@@ -13,8 +13,8 @@ use Rattle.bj_stmt.specs.Grammar.{named}
 use Rattle.bj_class.specs.Grammar as g
 use Rattle.bj_class.specs.Grammar.{MaybeStatic, NamesBy, MaybeNames, MaybeAll, MaybeSuper}
 use Rattle.bj_writer.specs.Pieces.{Piece, tokens_of}
-use Rattle.bj_print.specs.Exprs.{comma, sign}
-use Rattle.bj_print.specs.Classes.{name_piece, name_list, maybe_names, maybe_super}
+use Rattle.bj_layout.specs.Exprs.{comma, sign}
+use Rattle.bj_layout.specs.Classes.{name_piece, name_list, maybe_names, maybe_super}
 use Rattle.bj_print.specs.Same.{nowhere, unplaced_name}
 use Rattle.bj_print.proofs.Holds.{Back, spelling_of, text_is}
 use Rattle.bj_print.proofs.ExprTokens.{worded, keyed, signed}

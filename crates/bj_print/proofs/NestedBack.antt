@@ -2,11 +2,11 @@
 use Rattle.std.proofs.Common.{◌≡◌, ◌≢◌, ℕ, suc, Bool, false, List, [], ◌∷◌, map, Option, refl, ap, ◌∙◌}
 use Rattle.std.proofs.lemmas.List.{append-nil}
 use Rattle.std.specs.Prelude.{codes}
-use Rattle.bj_core.specs.declared.types.Span.{Span}
-use Rattle.bj_lex.specs.declared.token.Token.{Token}
-use Rattle.bj_lex.specs.declared.token.TokenKind.TheVariants as kinds
-use Rattle.bj_tree.specs.declared.types.TypeTree.{TypeTree}
-use Rattle.bj_tree.specs.declared.expr.ExprTree.{ExprTree}
+use Rattle.bj_base.specs.declared.span.Span.{Span}
+use Rattle.bj_token.specs.declared.token.Token.{Token}
+use Rattle.bj_token.specs.declared.token.TokenKind.TheVariants as kinds
+use Rattle.bj_expr_tree.specs.declared.types.TypeTree.{TypeTree}
+use Rattle.bj_expr_tree.specs.declared.expr.ExprTree.{ExprTree}
 use Rattle.bj_tree.specs.declared.stmt.StmtTree.{StmtTree}
 use Rattle.bj_tree.specs.declared.stmt.StmtTree.TheVariants as stmt
 use Rattle.bj_grammar.specs.Reader.{Text}
@@ -14,8 +14,8 @@ use Rattle.bj_expr.specs.Grammar.{Expression}
 use Rattle.bj_stmt.specs.Grammar as g
 use Rattle.bj_stmt.specs.Grammar.{named, dangles, ForInit, MaybeExpressions, Statement, Block, Members, Catches, Catch}
 use Rattle.bj_writer.specs.Pieces.{Piece, tokens_of}
-use Rattle.bj_print.specs.Exprs.{sign, with_commas, separated, spaced, type_pieces, expr_pieces}
-use Rattle.bj_print.specs.Stmts.{maybe_final, maybe_expr, for_update, stmt_pieces}
+use Rattle.bj_layout.specs.Exprs.{sign, with_commas, separated, spaced, type_pieces, expr_pieces}
+use Rattle.bj_layout.specs.Stmts.{maybe_final, maybe_expr, for_update, stmt_pieces}
 use Rattle.bj_print.proofs.Holds.{text_is}
 use Rattle.bj_print.proofs.StmtPieces as pieces
 use Rattle.bj_print.proofs.StmtPieces.{line_pieces, bare_list}

@@ -1,6 +1,6 @@
 -- What does not depend on places.
 use Rattle.std.proofs.Common.{◌≡◌, sym, ap, ◌∙◌}
-use Rattle.bj_tree.specs.declared.expr.ExprTree.{ExprTree}
+use Rattle.bj_expr_tree.specs.declared.expr.ExprTree.{ExprTree}
 use Rattle.bj_expr.specs.Grammar.{is_new_array}
 use Rattle.bj_print.specs.Same.{unplaced_expr, SameExpr}
 use Rattle.bj_print.proofs.ExprForms.{by_forms}

@@ -1,10 +1,11 @@
 -- How many nodes a statement has does not depend on places.
 use Rattle.std.proofs.Common.{◌≡◌, ℕ, suc, ◌+◌, List, map, Option, option_map, refl, ap, ◌∙◌}
 use Rattle.std.specs.Prelude.{unwrap_or}
-use Rattle.bj_tree.specs.declared.expr.ExprTree.{ExprTree}
+use Rattle.bj_expr_tree.specs.declared.expr.ExprTree.{ExprTree}
 use Rattle.bj_tree.specs.declared.stmt.VariableTree.{VariableTree}
 use Rattle.bj_tree.specs.declared.stmt.StmtTree.{StmtTree, StmtTree-F}
-use Rattle.bj_tree.specs.Count.{total, nodes_of_expr, nodes_of_variable, stmt_form, nodes_of}
+use Rattle.bj_expr_tree.specs.Count.{total, nodes_of_expr}
+use Rattle.bj_tree.specs.Count.{nodes_of_variable, stmt_form, nodes_of}
 use Rattle.bj_print.specs.Same.{unplaced_expr, unplaced_variable, unplaced_stmt}
 use Rattle.bj_print.proofs.Measures.{each_steady, maybe_steady}
 use Rattle.bj_print.proofs.Invariants.{unplaced_nodes}

@@ -1,18 +1,18 @@
 -- Printed parameters and results are read again [JLS 8.4.1, 8.4.5].
 use Rattle.std.proofs.Common.{map, ◌≡◌, ℕ, Bool, List, [], Option, Some, None, refl, sym, ap, ◌∙◌, subst}
 use Rattle.std.specs.Prelude.{codes, option_map}
-use Rattle.bj_core.specs.declared.types.Span.{Span}
-use Rattle.bj_tree.specs.declared.types.NamedPlace.{NamedPlace}
-use Rattle.bj_tree.specs.declared.types.TypeTree.{TypeTree}
+use Rattle.bj_base.specs.declared.span.Span.{Span}
+use Rattle.bj_expr_tree.specs.declared.types.NamedPlace.{NamedPlace}
+use Rattle.bj_expr_tree.specs.declared.types.TypeTree.{TypeTree}
 use Rattle.bj_tree.specs.declared.member.ParameterTree.{ParameterTree}
 use Rattle.bj_grammar.specs.Reader.{Text}
 use Rattle.bj_stmt.specs.Grammar.{named}
 use Rattle.bj_class.specs.Grammar as g
 use Rattle.bj_class.specs.Grammar.{Parameter, Parameters, Formals, ResultAt}
 use Rattle.bj_writer.specs.Pieces.{tokens_of}
-use Rattle.bj_print.specs.Exprs.{comma, with_commas, type_pieces}
-use Rattle.bj_print.specs.Stmts.{maybe_final}
-use Rattle.bj_print.specs.Classes.{parameter_pieces, formals, result_pieces}
+use Rattle.bj_layout.specs.Exprs.{comma, with_commas, type_pieces}
+use Rattle.bj_layout.specs.Stmts.{maybe_final}
+use Rattle.bj_layout.specs.Classes.{parameter_pieces, formals, result_pieces}
 use Rattle.bj_print.specs.Same.{nowhere, unplaced_name, unplaced_type, unplaced_parameter}
 use Rattle.bj_print.proofs.Holds.{Back}
 use Rattle.bj_print.proofs.ExprLaws.{ExprLaws, SameType}

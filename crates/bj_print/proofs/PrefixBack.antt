@@ -1,10 +1,10 @@
 -- Printed annotations and modifiers are read again [JLS 9.7, 8.1.1].
 use Rattle.std.proofs.Common.{◌≡◌, ℕ, suc, true, List, [], ◌∷◌, ◌++◌, map, Some, None, refl, sym, ap, ◌∙◌, subst}
 use Rattle.std.specs.Prelude.{codes}
-use Rattle.bj_core.specs.declared.types.Span.{Span}
-use Rattle.bj_lex.specs.declared.token.TokenKind.TheVariants as kinds
-use Rattle.bj_lex.specs.declared.token.Token.{Token}
-use Rattle.bj_tree.specs.declared.types.NamedPlace.{NamedPlace}
+use Rattle.bj_base.specs.declared.span.Span.{Span}
+use Rattle.bj_token.specs.declared.token.TokenKind.TheVariants as kinds
+use Rattle.bj_token.specs.declared.token.Token.{Token}
+use Rattle.bj_expr_tree.specs.declared.types.NamedPlace.{NamedPlace}
 use Rattle.bj_tree.specs.declared.class.Modifier.{Modifier}
 use Rattle.bj_tree.specs.declared.class.AnnotationTree.{AnnotationTree}
 use Rattle.bj_grammar.specs.declared.terminal.Terminal.{Terminal}
@@ -14,8 +14,8 @@ use Rattle.bj_stmt.specs.Grammar.{named}
 use Rattle.bj_class.specs.Grammar as g
 use Rattle.bj_class.specs.Grammar.{Annotation, Annotations, modifier_words, modifier_kind, modifier, ModifierList}
 use Rattle.bj_writer.specs.Pieces.{tokens_of}
-use Rattle.bj_print.specs.Exprs.{each_behind}
-use Rattle.bj_print.specs.Classes.{annotation_pieces, modifier_word, modifier_pieces, prefix_pieces}
+use Rattle.bj_layout.specs.Exprs.{each_behind}
+use Rattle.bj_layout.specs.Classes.{annotation_pieces, modifier_word, modifier_pieces, prefix_pieces}
 use Rattle.bj_print.specs.Same.{nowhere, unplaced_name, unplaced_annotation, unplaced_modifier}
 use Rattle.bj_print.proofs.Holds.{Back, text_is}
 use Rattle.bj_expr.proofs.Facts.{each}

@@ -1,19 +1,19 @@
 -- Printed primary expressions are read again [JLS 15.8].
 use Rattle.std.proofs.Common.{◌≡◌, ℕ, suc, true, List, ◌++◌, refl, ap}
 use Rattle.std.specs.Prelude.{codes}
-use Rattle.bj_core.specs.declared.types.Span.{Span}
-use Rattle.bj_lex.specs.declared.token.TokenKind.TheVariants as kinds
-use Rattle.bj_lex.specs.declared.token.Token.{Token}
-use Rattle.bj_tree.specs.declared.expr.ExprTree.{ExprTree}
-use Rattle.bj_tree.specs.declared.expr.ExprTree.TheVariants as e
+use Rattle.bj_base.specs.declared.span.Span.{Span}
+use Rattle.bj_token.specs.declared.token.TokenKind.TheVariants as kinds
+use Rattle.bj_token.specs.declared.token.Token.{Token}
+use Rattle.bj_expr_tree.specs.declared.expr.ExprTree.{ExprTree}
+use Rattle.bj_expr_tree.specs.declared.expr.ExprTree.TheVariants as e
 use Rattle.bj_grammar.specs.Terminal.{terminal, among}
 use Rattle.bj_grammar.specs.Reader.{Text}
 use Rattle.bj_expr.specs.Grammar as g
 use Rattle.bj_expr.specs.Grammar.{literal_words, literal_kind, type_words, type_tree, Dims, Expression, Primary, Args}
-use Rattle.bj_print.specs.Exprs.{literal_token, expr_pieces}
+use Rattle.bj_layout.specs.Exprs.{literal_token, expr_pieces}
 use Rattle.bj_print.proofs.Holds.{text_is}
 use Rattle.bj_print.proofs.ExprLaws.{list_pieces}
-use Rattle.bj_print.proofs.ExprPieces as forms
+use Rattle.bj_layout.proofs.ExprPieces as forms
 use Rattle.bj_print.proofs.ExprTokens.{worded, keyed, signed, new_array_tokens, new_values_tokens, size_tokens, pair_tokens, brace_tokens}
 use Rattle.bj_print.proofs.ExprSame.{same_literal, same_this, same_paren, same_name, same_call, same_super_field, same_super_call, same_new, same_new_array, same_new_values, same_braces}
 use Rattle.bj_print.proofs.PrintedOperators.{among_again, literal_again, word_is_literal}

@@ -3,20 +3,20 @@ use Rattle.std.proofs.Common.{◌≡◌, ℕ, zero, suc, Bool, true, false, refl
 use Rattle.std.specs.Prelude.{◌||◌, codes, not}
 use Rattle.std.specs.Str.{bytes_eq}
 use Rattle.std.proofs.lemmas.Bool.{both_ways}
-use Rattle.bj_lex.specs.declared.token.TokenKind.{TokenKind}
-use Rattle.bj_lex.specs.declared.token.TokenKind.TheVariants as kinds
-use Rattle.bj_lex.specs.declared.token.Token.{Token}
+use Rattle.bj_token.specs.declared.token.TokenKind.{TokenKind}
+use Rattle.bj_token.specs.declared.token.TokenKind.TheVariants as kinds
+use Rattle.bj_token.specs.declared.token.Token.{Token}
 use Rattle.bj_lex.specs.Grammar.{Spelled}
-use Rattle.bj_tree.specs.declared.types.TypeName.{TypeName}
-use Rattle.bj_tree.specs.declared.types.TypeName.TheVariants as names
+use Rattle.bj_expr_tree.specs.declared.types.TypeName.{TypeName}
+use Rattle.bj_expr_tree.specs.declared.types.TypeName.TheVariants as names
 use Rattle.bj_grammar.specs.declared.terminal.Terminal.{Terminal}
 use Rattle.bj_grammar.specs.declared.terminal.Terminal.TheVariants as t
 use Rattle.bj_grammar.specs.Terminal.{terminal, terminal_by, same_terminal, among, keywords, signs, digits}
 use Rattle.bj_expr.specs.Grammar as g
 use Rattle.bj_expr.specs.Grammar.{ops, binary_op, assigns, assign_op, negations, negation_op, step_ops, step_op, literal_words, leasts, literal_kind, type_words}
 use Rattle.bj_writer.specs.Pieces.{Piece, tokens_of}
-use Rattle.bj_print.specs.Exprs as p
-use Rattle.bj_print.specs.Exprs.{literal_token, unary_sign, step_sign, binary_sign, assign_sign}
+use Rattle.bj_layout.specs.Exprs as p
+use Rattle.bj_layout.specs.Exprs.{literal_token, unary_sign, step_sign, binary_sign, assign_sign}
 use Rattle.bj_print.proofs.Holds.{spelling_of, terminal_is, text_is}
 use Rattle.bj_print.proofs.ExprTokens.{worded, keyed}
 use Rattle.bj_expr.proofs.Facts.{each, or_left, or_right}

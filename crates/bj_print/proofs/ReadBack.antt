@@ -1,14 +1,14 @@
 -- Printed lines are read back.
 use Rattle.std.proofs.Common.{◌≡◌, ℕ, ◌≤◌, List, length, None, sym, subst}
-use Rattle.bj_tree.specs.declared.expr.ExprTree.{ExprTree}
+use Rattle.bj_expr_tree.specs.declared.expr.ExprTree.{ExprTree}
 use Rattle.bj_tree.specs.declared.line.LineTree.TheVariants as lines
 use Rattle.bj_grammar.specs.Given.{text_of, place_of}
 use Rattle.bj_expr.specs.Grammar.{Expression}
 use Rattle.bj_writer.specs.Pieces.{Piece, tokens_of, written}
 use Rattle.bj_writer.specs.Tokens.{IsToken, AreTokens, ReadAs}
 use Rattle.bj_writer.proofs.ReadBack.{written_reads}
-use Rattle.bj_parse.specs.Line.{most_nodes}
-use Rattle.bj_print.specs.Exprs.{expr_pieces}
+use Rattle.bj_line.specs.Line.{most_nodes}
+use Rattle.bj_layout.specs.Exprs.{expr_pieces}
 use Rattle.bj_print.specs.Printed.{IsLineText, ReadsAsExpr}
 use Rattle.bj_print.proofs.Holds.{Holds, ends}
 use Rattle.bj_print.proofs.Drawn.{tokens_drawn}

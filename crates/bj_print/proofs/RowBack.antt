@@ -1,16 +1,16 @@
 -- Parts that are printed in a row, with nothing or with a sign between them, are read again.
 use Rattle.std.proofs.Common.{◌≡◌, ℕ, suc, List, [], ◌∷◌, ◌++◌, map, append_assoc, refl, sym, ap, ◌∙◌, subst}
 use Rattle.std.proofs.lemmas.List.{append-nil, map-append}
-use Rattle.bj_lex.specs.declared.token.TokenKind.TheVariants as kinds
+use Rattle.bj_token.specs.declared.token.TokenKind.TheVariants as kinds
 use Rattle.bj_lex.specs.Grammar.{Spelled}
 use Rattle.bj_grammar.specs.Terminal.{terminal, terminal_by}
 use Rattle.bj_grammar.specs.Reader.{Text}
 use Rattle.bj_writer.specs.Pieces.{Piece, tokens_of}
-use Rattle.bj_print.specs.Exprs.{each_behind, separated}
-use Rattle.bj_print.specs.Classes.{each}
+use Rattle.bj_layout.specs.Exprs.{each_behind, separated}
+use Rattle.bj_layout.specs.Classes.{each}
 use Rattle.bj_print.proofs.Holds.{Back, tokens_append}
 use Rattle.bj_print.proofs.ExprTokens.{signed}
-use Rattle.bj_print.proofs.Writing.{behind_end}
+use Rattle.bj_layout.proofs.Writing.{behind_end}
 use Rattle.bj_print.proofs.Again.{Reads, reads_end, reads_mark, reads_parts, reads_as, respelled, reprinted}
 
 -- the same but for places, which are blotted out

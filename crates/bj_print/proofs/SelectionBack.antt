@@ -1,19 +1,19 @@
 -- Printed selections and steps behind a variable are read again [JLS 15.11, 15.12, 15.14].
 use Rattle.std.proofs.Common.{◌≡◌, ℕ, suc, true, false, List, refl, ap, ◌∙◌}
 use Rattle.std.specs.Prelude.{codes}
-use Rattle.bj_core.specs.declared.types.Span.{Span}
-use Rattle.bj_lex.specs.declared.token.TokenKind.TheVariants as kinds
-use Rattle.bj_tree.specs.declared.expr.ExprTree.{ExprTree}
-use Rattle.bj_tree.specs.declared.expr.ExprTree.TheVariants as e
+use Rattle.bj_base.specs.declared.span.Span.{Span}
+use Rattle.bj_token.specs.declared.token.TokenKind.TheVariants as kinds
+use Rattle.bj_expr_tree.specs.declared.expr.ExprTree.{ExprTree}
+use Rattle.bj_expr_tree.specs.declared.expr.ExprTree.TheVariants as e
 use Rattle.bj_grammar.specs.declared.terminal.Terminal.{Terminal}
 use Rattle.bj_grammar.specs.Terminal.{terminal, among}
 use Rattle.bj_grammar.specs.Reader.{Text}
 use Rattle.bj_expr.specs.Grammar as g
 use Rattle.bj_expr.specs.Grammar.{step_ops, step_op, is_new_array, Expression, Postfix, Selected, Args}
 use Rattle.bj_print.proofs.Holds.{text_is}
-use Rattle.bj_print.specs.Exprs.{expr_pieces}
+use Rattle.bj_layout.specs.Exprs.{expr_pieces}
 use Rattle.bj_print.proofs.ExprLaws.{list_pieces}
-use Rattle.bj_print.proofs.ExprPieces as forms
+use Rattle.bj_layout.proofs.ExprPieces as forms
 use Rattle.bj_print.proofs.ExprTokens.{worded, signed}
 use Rattle.bj_print.proofs.ExprSame.{same_field, same_method_call, same_index, same_postfix}
 use Rattle.bj_print.proofs.PrintedOperators.{step_text, step_printed, among_again}

@@ -1,12 +1,12 @@
 -- The small parts of statements are found again.
 use Rattle.std.proofs.Common.{◌≡◌, ℕ, Bool, true, false, List, [], ◌∷◌, Option, Some, None, option_map, refl, sym, ap, ◌∙◌, subst}
 use Rattle.std.specs.Prelude.{codes}
-use Rattle.bj_core.specs.declared.types.Span.{Span}
-use Rattle.bj_lex.specs.declared.token.TokenKind.TheVariants as kinds
-use Rattle.bj_tree.specs.declared.types.NamedPlace.{NamedPlace}
-use Rattle.bj_tree.specs.declared.types.TypeTree.{TypeTree}
-use Rattle.bj_tree.specs.declared.expr.ExprTree.{ExprTree}
-use Rattle.bj_tree.specs.declared.expr.ExprTree.TheVariants as e
+use Rattle.bj_base.specs.declared.span.Span.{Span}
+use Rattle.bj_token.specs.declared.token.TokenKind.TheVariants as kinds
+use Rattle.bj_expr_tree.specs.declared.types.NamedPlace.{NamedPlace}
+use Rattle.bj_expr_tree.specs.declared.types.TypeTree.{TypeTree}
+use Rattle.bj_expr_tree.specs.declared.expr.ExprTree.{ExprTree}
+use Rattle.bj_expr_tree.specs.declared.expr.ExprTree.TheVariants as e
 use Rattle.bj_tree.specs.declared.stmt.VariableTree.{VariableTree}
 use Rattle.bj_tree.specs.declared.stmt.StmtTree.{StmtTree}
 use Rattle.bj_tree.specs.declared.stmt.StmtTree.TheVariants as stmt
@@ -17,15 +17,15 @@ use Rattle.bj_stmt.specs.Grammar as g
 use Rattle.bj_stmt.specs.Grammar.{named, MaybeFinal, MaybeInit, MaybeExpression, MaybeName, Variable, Variables, Declaration, StatementExpression, Evaluation, Evaluations, ForInit, Expressions, MaybeExpressions}
 use Rattle.bj_writer.specs.Pieces.{tokens_of}
 use Rattle.bj_print.specs.Same.{nowhere, unplaced_expr, unplaced_variable, unplaced_stmt}
-use Rattle.bj_print.specs.Exprs.{comma, pairs, type_pieces, assign_sign, expr_pieces}
-use Rattle.bj_print.specs.Stmts.{Pieces, maybe_final, maybe_expr, maybe_label, maybe_init, variable_pieces, semicolon, stmt_parts}
+use Rattle.bj_layout.specs.Exprs.{comma, pairs, type_pieces, assign_sign, expr_pieces}
+use Rattle.bj_layout.specs.Stmts.{Pieces, maybe_final, maybe_expr, maybe_label, maybe_init, variable_pieces, semicolon, stmt_parts}
 use Rattle.bj_print.proofs.Holds.{Back, text_is}
 use Rattle.bj_print.proofs.ExprLaws.{ExprLaws}
 use Rattle.bj_print.proofs.ExprTokens.{signed, pair_tokens}
-use Rattle.bj_print.proofs.ExprPieces as forms
+use Rattle.bj_layout.proofs.ExprPieces as forms
 use Rattle.bj_print.proofs.StmtLaws.{SameStmts}
 use Rattle.bj_print.proofs.StmtPieces.{bare_pieces, bare_list, bares_listed}
-use Rattle.bj_print.proofs.StmtParts.{local_parts, expression_parts}
+use Rattle.bj_layout.proofs.StmtParts.{local_parts, expression_parts}
 use Rattle.bj_print.proofs.StmtUnplaced.{SameMaybe, SameMaybeName}
 use Rattle.bj_print.proofs.StmtSame.{same_local, same_expression}
 use Rattle.bj_print.proofs.StmtFacts.{same_is_statement}

@@ -1,8 +1,8 @@
 -- From the tokens of a text to those of a printed one.
 use Rattle.std.proofs.Common.{◌≡◌, ◌≢◌, ℕ, zero, suc, ◌+◌, ◌<◌, ◌≤◌, ◌⊎◌, inl, inr, List, [], ◌∷◌, length, get_or, refl, ap, ◌∙◌, arith}
 use Rattle.std.proofs.lemmas.Bool.{cases_lt}
-use Rattle.bj_core.specs.declared.types.Span.{Span}
-use Rattle.bj_lex.specs.declared.token.Token.{Token}
+use Rattle.bj_base.specs.declared.span.Span.{Span}
+use Rattle.bj_token.specs.declared.token.Token.{Token}
 use Rattle.bj_lex.specs.Grammar.{Spelled, spelled}
 use Rattle.bj_lex.specs.Texts.{ReadsAs}
 use Rattle.bj_grammar.specs.declared.terminal.Terminal.TheVariants as t

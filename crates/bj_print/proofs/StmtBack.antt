@@ -1,10 +1,10 @@
 -- Statements with no other statements in them, blocks and lists of statements are found again where their parts are.
 use Rattle.std.proofs.Common.{◌≡◌, ◌≢◌, ℕ, suc, inl, inr, true, false, List, [], ◌∷◌, ◌++◌, map, Option, refl, sym, ap, ◌∙◌, subst, append_assoc}
 use Rattle.std.specs.Prelude.{codes}
-use Rattle.bj_core.specs.declared.types.Span.{Span}
+use Rattle.bj_base.specs.declared.span.Span.{Span}
 use Rattle.bj_lex.specs.Grammar.{Spelled}
-use Rattle.bj_tree.specs.declared.types.NamedPlace.{NamedPlace}
-use Rattle.bj_tree.specs.declared.expr.ExprTree.{ExprTree}
+use Rattle.bj_expr_tree.specs.declared.types.NamedPlace.{NamedPlace}
+use Rattle.bj_expr_tree.specs.declared.expr.ExprTree.{ExprTree}
 use Rattle.bj_tree.specs.declared.stmt.StmtTree.{StmtTree}
 use Rattle.bj_tree.specs.declared.stmt.StmtTree.TheVariants as stmt
 use Rattle.bj_grammar.specs.declared.terminal.Terminal.{Terminal}
@@ -16,8 +16,8 @@ use Rattle.bj_stmt.specs.Grammar as g
 use Rattle.bj_stmt.specs.Grammar.{jump, jumps, MaybeExpressions, Statement, Block, BlockStatements, Label, ConstructorCall, ConstructorBody}
 use Rattle.bj_writer.specs.Pieces.{Piece, Space, tokens_of}
 use Rattle.bj_print.specs.Same.{unplaced_stmt}
-use Rattle.bj_print.specs.Exprs.{sign, expr_pieces}
-use Rattle.bj_print.specs.Stmts.{maybe_expr, maybe_label, semicolon, stmt_parts, stmt_pieces}
+use Rattle.bj_layout.specs.Exprs.{sign, expr_pieces}
+use Rattle.bj_layout.specs.Stmts.{maybe_expr, maybe_label, semicolon, stmt_parts, stmt_pieces}
 use Rattle.bj_print.proofs.Holds.{tokens_append}
 use Rattle.bj_print.proofs.ExprLaws.{list_pieces}
 use Rattle.bj_print.proofs.StmtLaws.{SameStmts}

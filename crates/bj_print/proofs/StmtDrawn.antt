@@ -1,11 +1,11 @@
 -- The tokens of a printed statement are those of the text that it was read from.
 use Rattle.std.proofs.Common.{◌≡◌, ◌≢◌, ℕ, suc, Bool, true, false, List, [], ◌∷◌, ◌++◌, map, Option, refl, sym, ap, ◌∙◌, subst, le_refl}
 use Rattle.std.specs.Prelude.{codes}
-use Rattle.bj_core.specs.declared.types.Span.{Span}
-use Rattle.bj_lex.specs.declared.token.TokenKind.TheVariants as kinds
+use Rattle.bj_base.specs.declared.span.Span.{Span}
+use Rattle.bj_token.specs.declared.token.TokenKind.TheVariants as kinds
 use Rattle.bj_lex.specs.Grammar.{Spelled}
-use Rattle.bj_tree.specs.declared.types.NamedPlace.{NamedPlace}
-use Rattle.bj_tree.specs.declared.expr.ExprTree.{ExprTree}
+use Rattle.bj_expr_tree.specs.declared.types.NamedPlace.{NamedPlace}
+use Rattle.bj_expr_tree.specs.declared.expr.ExprTree.{ExprTree}
 use Rattle.bj_tree.specs.declared.stmt.VariableTree.{VariableTree}
 use Rattle.bj_tree.specs.declared.stmt.StmtTree.{StmtTree}
 use Rattle.bj_grammar.specs.declared.terminal.Terminal.{Terminal}
@@ -18,13 +18,13 @@ use Rattle.bj_expr.specs.Grammar.{Expression}
 use Rattle.bj_stmt.specs.Grammar as g
 use Rattle.bj_stmt.specs.Grammar.{MaybeFinal, MaybeInit, MaybeExpression, MaybeName, Variable, Variables, Declaration, StatementExpression, Evaluation, Evaluations, ForInit, Expressions, MaybeExpressions, Statement, Block, BlockStatements, BlockStatement, Members, Member, Label, Catches, Catch, ConstructorCall, ConstructorBody, SomeStatements, jumps, jump}
 use Rattle.bj_writer.specs.Pieces.{Piece, Space}
-use Rattle.bj_print.specs.Exprs.{expr_pieces, keyword, sign, comma, with_commas, pairs, type_pieces}
-use Rattle.bj_print.specs.Stmts.{maybe_final, maybe_init, maybe_expr, maybe_label, variable_pieces, for_update, stmt_parts, stmt_pieces, semicolon, Pieces}
+use Rattle.bj_layout.specs.Exprs.{expr_pieces, keyword, sign, comma, with_commas, pairs, type_pieces}
+use Rattle.bj_layout.specs.Stmts.{maybe_final, maybe_init, maybe_expr, maybe_label, variable_pieces, for_update, stmt_parts, stmt_pieces, semicolon, Pieces}
 use Rattle.bj_print.proofs.Drawn.{Drawn, AllDrawn, both, all_none, all_one, all_next, Rows, rows_drawn, rows_none, rows_one, rows_next}
 use Rattle.bj_print.proofs.DrawnTokens as drawn
 use Rattle.bj_print.proofs.ExprDrawn as exprs
-use Rattle.bj_print.proofs.ExprPieces as e
-use Rattle.bj_print.proofs.StmtParts.{local_parts, expression_parts}
+use Rattle.bj_layout.proofs.ExprPieces as e
+use Rattle.bj_layout.proofs.StmtParts.{local_parts, expression_parts}
 use Rattle.bj_print.proofs.StmtPieces as w
 use Rattle.bj_print.proofs.StmtPieces.{line_pieces, bare_pieces, bare_list}
 use Rattle.bj_print.proofs.Holds.{spelling_of}

@@ -1,8 +1,8 @@
 -- Expressions that are statements, and the words and signs that a statement is told by.
 use Rattle.std.proofs.Common.{◌≡◌, ◌⊎◌, inl, inr, true, refl, sym, ap, ◌∙◌}
-use Rattle.bj_tree.specs.declared.expr.ExprTree.{ExprTree, ExprTree-F, roll-ExprTree, ind-ExprTree}
-use Rattle.bj_tree.specs.declared.expr.ExprTree.TheVariants as e
-use Rattle.bj_tree.specs.declared.expr.ExprTree.TheFolds.{fold-roll-ExprTree}
+use Rattle.bj_expr_tree.specs.declared.expr.ExprTree.{ExprTree, ExprTree-F, roll-ExprTree, ind-ExprTree}
+use Rattle.bj_expr_tree.specs.declared.expr.ExprTree.TheVariants as e
+use Rattle.bj_expr_tree.specs.declared.expr.ExprTree.TheFolds.{fold-roll-ExprTree}
 use Rattle.bj_grammar.specs.declared.terminal.Terminal.{Terminal}
 use Rattle.bj_grammar.specs.declared.terminal.Terminal.TheVariants as t
 use Rattle.bj_expr.proofs.Facts.{each}

@@ -1,13 +1,13 @@
 -- Printed statements are found again: by induction on how they stand where they were read.
 use Rattle.std.proofs.Common.{◌≡◌, ℕ, suc, List, refl, sym, subst}
-use Rattle.bj_core.specs.declared.types.Span.{Span}
+use Rattle.bj_base.specs.declared.span.Span.{Span}
 use Rattle.bj_tree.specs.declared.stmt.StmtTree.{StmtTree}
 use Rattle.bj_grammar.specs.Terminal.{terminal}
 use Rattle.bj_grammar.specs.Reader.{Text}
 use Rattle.bj_stmt.specs.Grammar as g
 use Rattle.bj_stmt.specs.Grammar.{named, jump, Statement, Block, BlockStatements, BlockStatement, Members, Member, Label, Catches, Catch, ConstructorCall, ConstructorBody, SomeStatements}
 use Rattle.bj_print.specs.Same.{unplaced_stmt}
-use Rattle.bj_print.specs.Stmts.{stmt_pieces}
+use Rattle.bj_layout.specs.Stmts.{stmt_pieces}
 use Rattle.bj_print.proofs.ExprLaws.{ExprLaws}
 use Rattle.bj_print.proofs.StmtLaws.{StmtLaws}
 use Rattle.bj_print.proofs.SmallBack as small

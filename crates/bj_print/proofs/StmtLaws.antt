@@ -1,13 +1,13 @@
 -- What the grammar of statements promises for printed ones: each is found again.
 use Rattle.std.proofs.Common.{◌≡◌, ℕ, List, map}
-use Rattle.bj_core.specs.declared.types.Span.{Span}
+use Rattle.bj_base.specs.declared.span.Span.{Span}
 use Rattle.bj_tree.specs.declared.stmt.VariableTree.{VariableTree}
 use Rattle.bj_tree.specs.declared.stmt.StmtTree.{StmtTree}
 use Rattle.bj_grammar.specs.Reader.{Text}
 use Rattle.bj_stmt.specs.Grammar.{Statement, Block, BlockStatement, ConstructorBody, Variables, SomeStatements}
 use Rattle.bj_print.specs.Same.{unplaced_stmt, unplaced_variable, SameStmt}
-use Rattle.bj_print.specs.Exprs.{with_commas}
-use Rattle.bj_print.specs.Stmts.{in_line, stmt_parts, stmt_pieces, variable_pieces}
+use Rattle.bj_layout.specs.Exprs.{with_commas}
+use Rattle.bj_layout.specs.Stmts.{in_line, stmt_parts, stmt_pieces, variable_pieces}
 use Rattle.bj_print.proofs.Holds.{Prints}
 
 abbrev pub SameStmts : List StmtTree → List StmtTree → Type 0

@@ -2,17 +2,17 @@
 use Rattle.std.proofs.Common.{◌≡◌, ℕ, Bool, if◌then◌else◌, List, [], ◌∷◌, ◌++◌, map, Option, refl, ap, ◌∙◌, append_assoc}
 use Rattle.std.specs.Prelude.{codes}
 use Rattle.std.proofs.lemmas.List.{append-nil}
-use Rattle.bj_core.specs.declared.types.Span.{Span}
-use Rattle.bj_tree.specs.declared.types.TypeTree.{TypeTree}
-use Rattle.bj_tree.specs.declared.types.NamedPlace.{NamedPlace}
-use Rattle.bj_tree.specs.declared.expr.ExprTree.{ExprTree}
+use Rattle.bj_base.specs.declared.span.Span.{Span}
+use Rattle.bj_expr_tree.specs.declared.types.TypeTree.{TypeTree}
+use Rattle.bj_expr_tree.specs.declared.types.NamedPlace.{NamedPlace}
+use Rattle.bj_expr_tree.specs.declared.expr.ExprTree.{ExprTree}
 use Rattle.bj_tree.specs.declared.stmt.StmtTree.{StmtTree}
 use Rattle.bj_tree.specs.declared.stmt.StmtTree.TheVariants as stmt
 use Rattle.bj_writer.specs.Pieces.{Piece, Space}
-use Rattle.bj_print.specs.Exprs.{word, keyword, sign, separated, with_commas, type_pieces, spaced, expr_pieces}
-use Rattle.bj_print.specs.Stmts.{Pieces, whole, in_line, maybe_final, maybe_expr, maybe_label, headed, semicolon, for_update, stmt_parts, stmt_pieces}
+use Rattle.bj_layout.specs.Exprs.{word, keyword, sign, separated, with_commas, type_pieces, spaced, expr_pieces}
+use Rattle.bj_layout.specs.Stmts.{Pieces, whole, in_line, maybe_final, maybe_expr, maybe_label, headed, semicolon, for_update, stmt_parts, stmt_pieces}
 use Rattle.bj_print.proofs.ExprLaws.{list_pieces}
-use Rattle.bj_print.proofs.StmtParts.{block_parts, empty_parts, if_parts, if_else_parts, while_parts, do_parts, for_parts, for_each_parts, switch_parts, case_parts, default_parts, labelled_parts, break_parts, continue_parts, return_parts, throw_parts, synchronized_parts, synchronized_class_parts, try_parts, try_finally_parts, catch_parts, constructor_call_parts}
+use Rattle.bj_layout.proofs.StmtParts.{block_parts, empty_parts, if_parts, if_else_parts, while_parts, do_parts, for_parts, for_each_parts, switch_parts, case_parts, default_parts, labelled_parts, break_parts, continue_parts, return_parts, throw_parts, synchronized_parts, synchronized_class_parts, try_parts, try_finally_parts, catch_parts, constructor_call_parts}
 
 -- statements with a space before each
 abbrev pub line_pieces : List StmtTree → List Piece

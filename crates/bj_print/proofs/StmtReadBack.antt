@@ -8,9 +8,9 @@ use Rattle.bj_stmt.specs.Grammar.{SomeStatements}
 use Rattle.bj_stmt.specs.Heights.{stmt_height}
 use Rattle.bj_writer.specs.Pieces.{tokens_of, written}
 use Rattle.bj_writer.specs.Tokens.{IsToken}
-use Rattle.bj_parse.specs.Line.{most_nodes, line_height}
+use Rattle.bj_line.specs.Line.{most_nodes, line_height}
 use Rattle.bj_print.specs.Same.{SameStmt}
-use Rattle.bj_print.specs.Stmts.{stmt_pieces, stmt_parts, in_line}
+use Rattle.bj_layout.specs.Stmts.{stmt_pieces, stmt_parts, in_line}
 use Rattle.bj_print.specs.Printed.{IsLineText, ReadsAsStmt}
 use Rattle.bj_print.proofs.Holds.{Holds, ends}
 use Rattle.bj_print.proofs.Drawn.{tokens_drawn}

@@ -2,17 +2,17 @@
 use Rattle.std.proofs.Common.{◌≡◌, ℕ, zero, suc, ◌+◌, ◌≤◌, true, List, ◌++◌, refl, sym, ap, ◌∙◌, subst, arith}
 use Rattle.std.specs.Prelude.{codes}
 use Rattle.std.proofs.Math.Nat.{min-le_right, min-eq_left}
-use Rattle.bj_core.specs.declared.types.Span.{Span}
-use Rattle.bj_lex.specs.declared.token.TokenKind.TheVariants as kinds
-use Rattle.bj_lex.specs.declared.token.Token.{Token}
+use Rattle.bj_base.specs.declared.span.Span.{Span}
+use Rattle.bj_token.specs.declared.token.TokenKind.TheVariants as kinds
+use Rattle.bj_token.specs.declared.token.Token.{Token}
 use Rattle.bj_lex.specs.Grammar.{Spelled}
-use Rattle.bj_tree.specs.declared.types.TypeName.{TypeName}
-use Rattle.bj_tree.specs.declared.types.TypeTree.{TypeTree}
+use Rattle.bj_expr_tree.specs.declared.types.TypeName.{TypeName}
+use Rattle.bj_expr_tree.specs.declared.types.TypeTree.{TypeTree}
 use Rattle.bj_grammar.specs.Terminal.{terminal, among}
 use Rattle.bj_grammar.specs.Reader.{Text}
 use Rattle.bj_expr.specs.Grammar as g
 use Rattle.bj_expr.specs.Grammar.{type_words, type_tree, one_more, Dims, TypeAt}
-use Rattle.bj_print.specs.Exprs.{pairs}
+use Rattle.bj_layout.specs.Exprs.{pairs}
 use Rattle.bj_print.specs.Same.{nowhere}
 use Rattle.bj_print.proofs.Holds.{Holds, ends, Back, terminal_is}
 use Rattle.bj_print.proofs.ExprLaws.{SameType}

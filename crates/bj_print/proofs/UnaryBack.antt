@@ -1,23 +1,23 @@
 -- Printed unary expressions and casts are read again [JLS 15.15, 15.16].
 use Rattle.std.proofs.Common.{◌≡◌, ℕ, suc, true, false, List, ◌∷◌, refl, ap, ◌∙◌}
 use Rattle.std.specs.Prelude.{codes}
-use Rattle.bj_core.specs.declared.types.Span.{Span}
-use Rattle.bj_lex.specs.declared.token.Token.{Token}
+use Rattle.bj_base.specs.declared.span.Span.{Span}
+use Rattle.bj_token.specs.declared.token.Token.{Token}
 use Rattle.bj_lex.specs.Grammar.{Spelled}
-use Rattle.bj_tree.specs.declared.types.TypeTree.{TypeTree}
-use Rattle.bj_tree.specs.declared.expr.UnaryOp.TheVariants as unaries
-use Rattle.bj_tree.specs.declared.expr.ExprTree.{ExprTree}
-use Rattle.bj_tree.specs.declared.expr.ExprTree.TheVariants as e
+use Rattle.bj_expr_tree.specs.declared.types.TypeTree.{TypeTree}
+use Rattle.bj_expr_tree.specs.declared.expr.UnaryOp.TheVariants as unaries
+use Rattle.bj_expr_tree.specs.declared.expr.ExprTree.{ExprTree}
+use Rattle.bj_expr_tree.specs.declared.expr.ExprTree.TheVariants as e
 use Rattle.bj_grammar.specs.declared.terminal.Terminal.{Terminal}
 use Rattle.bj_grammar.specs.Terminal.{terminal, among}
 use Rattle.bj_grammar.specs.Reader.{Text}
 use Rattle.bj_expr.specs.Grammar as g
 use Rattle.bj_expr.specs.Grammar.{negations, negation_op, step_ops, step_op, leasts, literal_kind, is_primitive, TypeAt, Unary, Plain}
-use Rattle.bj_print.specs.Exprs.{literal_token, sign}
+use Rattle.bj_layout.specs.Exprs.{literal_token, sign}
 use Rattle.bj_print.proofs.Holds.{text_is}
 use Rattle.bj_print.proofs.ExprLaws.{SameType}
 use Rattle.bj_writer.specs.Pieces.{Piece}
-use Rattle.bj_print.proofs.ExprPieces as forms
+use Rattle.bj_layout.proofs.ExprPieces as forms
 use Rattle.bj_print.proofs.ExprTokens.{signed, cast_tokens}
 use Rattle.bj_print.proofs.ExprSame.{same_unary, same_prefix, same_cast, same_literal}
 use Rattle.bj_print.proofs.PrintedOperators.{step_text, step_printed, negation_text, negation_printed, among_again, literal_again, least_is_literal}

@@ -1,15 +1,15 @@
 -- What a printed text reads as.
 use Rattle.std.specs.Prelude.{ℕ, List, [], ◌∷◌}
-use Rattle.bj_core.specs.declared.types.Span.{Span}
+use Rattle.bj_base.specs.declared.span.Span.{Span}
 use Rattle.bj_text.specs.Utf16.{bytes_of}
-use Rattle.bj_lex.specs.declared.token.Token.{Token}
+use Rattle.bj_token.specs.declared.token.Token.{Token}
 use Rattle.bj_lex.specs.Texts.{ReadsAs}
-use Rattle.bj_tree.specs.declared.expr.ExprTree.{ExprTree}
+use Rattle.bj_expr_tree.specs.declared.expr.ExprTree.{ExprTree}
 use Rattle.bj_tree.specs.declared.stmt.StmtTree.{StmtTree}
 use Rattle.bj_tree.specs.declared.line.LineTree.{LineTree}
 use Rattle.bj_tree.specs.declared.line.LineTree.TheVariants as lines
 use Rattle.bj_tree.specs.declared.class.ClassTree.{ClassTree}
-use Rattle.bj_parse.specs.Line.{IsLine}
+use Rattle.bj_line.specs.Line.{IsLine}
 use Rattle.bj_parse.specs.Class.{IsClass}
 use Rattle.bj_print.specs.Same.{SameExpr, SameStmt, SameClass}
 

@@ -1,45 +1,15 @@
 ghost use Rattle.std.specs.Prelude.{◌≡◌, ℕ, List, [], ◌∷◌, None, IfOk};
 ghost use Rattle.bj_tree.specs.declared.line.LineTree.TheVariants as lines;
 ghost use Rattle.bj_writer.specs.Pieces.{written};
-ghost use Rattle.bj_print.specs.Exprs.{expr_pieces};
-ghost use Rattle.bj_print.specs.Stmts.{stmt_pieces};
-ghost use Rattle.bj_print.specs.Classes.{class_pieces};
+ghost use Rattle.bj_layout.specs.Exprs.{expr_pieces};
+ghost use Rattle.bj_layout.specs.Stmts.{stmt_pieces};
+ghost use Rattle.bj_layout.specs.Classes.{class_pieces};
 ghost use Rattle.bj_print.specs.Printed.{IsLineText, IsClassText, ReadsAsExpr, ReadsAsStmt, ReadsAsClass};
 
-use crate::class::write_class;
-use crate::expr::write_expr;
-use crate::stmt::write_stmt;
-use bj_core::{JText, NoMemory};
+use bj_base::{JText, NoMemory};
+use bj_layout::{class_text, expr_text, stmt_text};
 use bj_tree::{ClassTree, ExprTree, StmtTree};
-use bj_writer::Writer;
 use std::alloc::Global;
-
-/// The text of an expression, as it is laid out.
-fn expr_text(alloc: Global, tree: &ExprTree) -> Result<JText, NoMemory>
-    ensures { IfOk result (λ units. units ≡ written None (expr_pieces tree.now)) }
-{
-    let mut out = Writer::new(alloc);
-    write_expr(&mut out, tree)?;
-    Ok(out.into_text())
-}
-
-/// The text of a statement, as it is laid out.
-fn stmt_text(alloc: Global, tree: &StmtTree) -> Result<JText, NoMemory>
-    ensures { IfOk result (λ units. units ≡ written None (stmt_pieces tree.now)) }
-{
-    let mut out = Writer::new(alloc);
-    write_stmt(&mut out, tree)?;
-    Ok(out.into_text())
-}
-
-/// The text of a file, as it is laid out.
-fn class_text(alloc: Global, tree: &ClassTree) -> Result<JText, NoMemory>
-    ensures { IfOk result (λ units. units ≡ written None (class_pieces tree.now)) }
-{
-    let mut out = Writer::new(alloc);
-    write_class(&mut out, tree)?;
-    Ok(out.into_text())
-}
 
 /// The text of an expression [JLS 15], in UTF-16 units: one space round an operator with two operands or three, behind a comma and behind a
 /// cast; parentheses as in the tree; literals as they were written; and a space between two tokens that would be another one together

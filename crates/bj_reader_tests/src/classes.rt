@@ -1,6 +1,7 @@
-use bj_core::{FaultCode, Name, NoMemory, Refusal, Seq, Span};
-use bj_lex::{Tokens, tokens};
+use bj_base::{FaultCode, Name, NoMemory, Refusal, Seq, Span};
+use bj_lex::tokens;
 use bj_parse::class_of;
+use bj_token::Tokens;
 use bj_tree::ClassTree;
 use std::alloc::Global;
 use std::test::Fail;

@@ -1,6 +1,6 @@
 use crate::classes::{Read, read_in};
 use crate::lines::{Answer, answer_for};
-use bj_core::{FaultCode, NoMemory, Seq, Span};
+use bj_base::{FaultCode, NoMemory, Seq, Span};
 use std::alloc::Global;
 use std::test::Fail;
 

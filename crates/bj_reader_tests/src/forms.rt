@@ -1,6 +1,7 @@
-use bj_core::{FaultCode, Name, Refusal, Span};
-use bj_lex::{Tokens, tokens};
-use bj_parse::line_of;
+use bj_base::{FaultCode, Name, Refusal, Span};
+use bj_lex::tokens;
+use bj_line::line_of;
+use bj_token::Tokens;
 use bj_tree::LineTree;
 use std::alloc::Global;
 use std::test::Fail;

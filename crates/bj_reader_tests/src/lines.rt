@@ -1,9 +1,10 @@
-use bj_core::{FaultCode, Name, NoMemory, Refusal, Seq, Span};
+use bj_base::{FaultCode, Name, NoMemory, Refusal, Seq, Span};
 use bj_expr::{Bounds, Part, part_at};
 use bj_grammar::{Stop, Symbol};
-use bj_lex::{Token, Tokens, tokens};
-use bj_parse::line_of;
+use bj_lex::tokens;
+use bj_line::line_of;
 use bj_stmt::statements_at;
+use bj_token::{Token, Tokens};
 use bj_tree::LineTree;
 use std::alloc::Global;
 use std::test::Fail;

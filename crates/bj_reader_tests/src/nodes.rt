@@ -1,8 +1,9 @@
 use crate::forms::let_go;
-use bj_core::Name;
+use bj_base::Name;
 use bj_expr::node_below;
-use bj_lex::{Tokens, tokens};
-use bj_parse::line_of;
+use bj_lex::tokens;
+use bj_line::line_of;
+use bj_token::Tokens;
 use bj_tree::LineTree;
 use std::alloc::Global;
 use std::test::Fail;

@@ -1,14 +1,14 @@
 -- Each way to read a text gives a reply that is one of the text.
 use Rattle.std.proofs.Common.{◌≡◌, ◌⊎◌, ℕ, List, [], if◌then◌else◌, Result, Ok, Err, inl, inr, subst, ◌∙◌}
 use Rattle.std.specs.Prelude.{IfOk}
-use Rattle.bj_core.specs.declared.types.Span.{Span}
-use Rattle.bj_core.specs.declared.fault.Fault.{Fault}
-use Rattle.bj_core.specs.declared.fault.FaultCode.TheVariants.{Syntax}
-use Rattle.bj_core.specs.declared.fault.Refusal.TheVariants as refusal
-use Rattle.bj_lex.specs.declared.token.Tokens.{Tokens}
+use Rattle.bj_base.specs.declared.span.Span.{Span}
+use Rattle.bj_base.specs.declared.fault.Fault.{Fault}
+use Rattle.bj_base.specs.declared.fault.FaultCode.TheVariants.{Syntax}
+use Rattle.bj_base.specs.declared.fault.Refusal.TheVariants as refusal
+use Rattle.bj_token.specs.declared.token.Tokens.{Tokens}
 use Rattle.bj_lex.specs.Texts.{IsFirstFault, ReadsAs}
 use Rattle.bj_tree.specs.declared.line.LineTree.{LineTree}
-use Rattle.bj_parse.specs.Line.{IsLine, FaultAt}
+use Rattle.bj_line.specs.Line.{IsLine, FaultAt}
 use Rattle.bj_reading.specs.declared.text.JavaText.{JavaText}
 use Rattle.bj_reading.specs.Reply.{first_place, parsed, is_of_form, not_built, fault_reply, IsParserReply, IsTreeReply, IsReadingReply}
 

@@ -1,18 +1,18 @@
 -- What reading the Java text of a console line comes to, as the reply.
 use Rattle.std.specs.Prelude.{◌≡◌, ◌⊎◌, ℕ, Bool, true, false, if◌then◌else◌, List, [], ◌∷◌, ◌++◌, Err, codes, decimal}
-use Rattle.bj_core.specs.declared.types.Span.{Span}
-use Rattle.bj_core.specs.declared.fault.Fault.{Fault}
-use Rattle.bj_core.specs.declared.fault.FaultCode.{FaultCode}
-use Rattle.bj_core.specs.declared.fault.FaultCode.TheVariants as code
-use Rattle.bj_core.specs.declared.fault.Refusal.TheVariants as refusal
-use Rattle.bj_lex.specs.declared.token.Token.{Token}
-use Rattle.bj_lex.specs.declared.token.TokenKind.TheVariants.{Keyword}
-use Rattle.bj_lex.specs.declared.token.Tokens.{Tokens}
+use Rattle.bj_base.specs.declared.span.Span.{Span}
+use Rattle.bj_base.specs.declared.fault.Fault.{Fault}
+use Rattle.bj_base.specs.declared.fault.FaultCode.{FaultCode}
+use Rattle.bj_base.specs.declared.fault.FaultCode.TheVariants as code
+use Rattle.bj_base.specs.declared.fault.Refusal.TheVariants as refusal
+use Rattle.bj_token.specs.declared.token.Token.{Token}
+use Rattle.bj_token.specs.declared.token.TokenKind.TheVariants.{Keyword}
+use Rattle.bj_token.specs.declared.token.Tokens.{Tokens}
 use Rattle.bj_lex.specs.Texts.{IsFirstFault, ReadsAs}
-use Rattle.bj_tree.specs.declared.expr.ExprTree.{ExprTree, Call', MethodCall', SuperCall', New'}
+use Rattle.bj_expr_tree.specs.declared.expr.ExprTree.{ExprTree, Call', MethodCall', SuperCall', New'}
 use Rattle.bj_tree.specs.declared.line.LineTree.{LineTree}
 use Rattle.bj_tree.specs.declared.line.LineTree.TheVariants.{Expr, Stmts}
-use Rattle.bj_parse.specs.Line.{IsLine, FaultAt}
+use Rattle.bj_line.specs.Line.{IsLine, FaultAt}
 use Rattle.bj_reading.specs.declared.text.JavaText.{JavaText}
 use Rattle.bj_reading.specs.declared.text.JavaText.TheVariants.{Line, Call, Creation}
 

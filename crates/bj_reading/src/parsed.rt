@@ -3,7 +3,7 @@ ghost use Rattle.bj_reading.specs.declared.text.JavaText.TheVariants.{Creation};
 ghost use Rattle.bj_reading.specs.Reply as spec;
 
 use crate::JavaText;
-use bj_core::{NoMemory, Seq, Span};
+use bj_base::{NoMemory, Seq, Span};
 use bj_lex::{Token, TokenKind, Tokens};
 use std::alloc::Global;
 

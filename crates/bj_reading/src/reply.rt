@@ -1,16 +1,16 @@
 ghost use Rattle.std.specs.Prelude.{◌≡◌, ◌<◌, ◌⊎◌, [], IfOk, IfErr, Err, Ok, if◌then◌else◌, length};
-ghost use Rattle.bj_core.specs.declared.fault.FaultCode.TheVariants.{Syntax};
-ghost use Rattle.bj_core.specs.declared.fault.Refusal.TheVariants as refusals;
+ghost use Rattle.bj_base.specs.declared.fault.FaultCode.TheVariants.{Syntax};
+ghost use Rattle.bj_base.specs.declared.fault.Refusal.TheVariants as refusals;
 ghost use Rattle.bj_lex.specs.Texts.{ReadsAs};
-ghost use Rattle.bj_parse.specs.Line.{IsLine};
+ghost use Rattle.bj_line.specs.Line.{IsLine};
 ghost use Rattle.bj_reading.specs.Reply as spec;
 
 use crate::JavaText;
 use crate::parsed::{first_place, parsed};
 use crate::word::code_word;
-use bj_core::{Bytes, Fault, FaultCode, Name, NoMemory, Refusal, Seq, Span};
+use bj_base::{Bytes, Fault, FaultCode, Name, NoMemory, Refusal, Seq, Span};
 use bj_lex::{Tokens, tokens};
-use bj_parse::line_of;
+use bj_line::line_of;
 use bj_tree::{ExprTree, LineTree};
 use std::alloc::Global;
 

@@ -1,7 +1,7 @@
 ghost use Rattle.std.specs.Prelude.{◌≡◌};
 ghost use Rattle.bj_reading.specs.Reply.{code_word as spec_code_word};
 
-use bj_core::FaultCode;
+use bj_base::FaultCode;
 
 /// The word of a code, as replies have it.
 pub fn code_word(code: FaultCode) -> &'static str

@@ -17,10 +17,10 @@ use Rattle.bj_sum.specs.Cells.{creation_of, call_of}
 use Rattle.bj_sum.specs.Reading.{sum_of}
 use Rattle.bj_machine.specs.World.{World}
 use Rattle.bj_machine.specs.Shown.{Shown, Stands}
-use Rattle.bj_history.specs.declared.names.BoundName.{BoundName}
-use Rattle.bj_history.specs.declared.opening.Wait.TheVariants.{Told}
-use Rattle.bj_history.specs.Names.{value_in, is_taken, is_plain}
-use Rattle.bj_history.specs.Views.{inspection}
+use Rattle.bj_bench.specs.declared.names.BoundName.{BoundName}
+use Rattle.bj_say.specs.declared.wait.Wait.TheVariants.{Told}
+use Rattle.bj_bench.specs.Names.{value_in, is_taken, is_plain}
+use Rattle.bj_say.specs.Views.{inspection}
 use Rattle.bj_history.specs.Replies.{After, LineOutcome, cell_in, called_outcome, says, opens, not_built, if_free, pad_outcome, creation_begins, creation_outcome, new_outcome, call_name, call_outcome, cell_call_outcome, inspected, inspect_outcome, outcome_of}
 use Rattle.bj_reply.specs.declared.asking.Asked.{Asked}
 use Rattle.bj_reply.specs.Asking.{IsAsked, IsFor, IsForAny}

@@ -4,9 +4,9 @@ use Rattle.std.specs.Prelude.{◌↔◌}
 use Rattle.bj_core.specs.declared.frame.Term.{Term}
 use Rattle.bj_core.specs.declared.program.Program.{Program}
 use Rattle.bj_core.specs.declared.tree.Expr.{Expr}
-use Rattle.bj_core.specs.declared.tree.Op.{Op}
-use Rattle.bj_core.specs.declared.tree.Op.TheVariants.{Add, Sub, Mul}
-use Rattle.bj_core.specs.declared.types.Span.{Span}
+use Rattle.bj_base.specs.declared.op.Op.{Op}
+use Rattle.bj_base.specs.declared.op.Op.TheVariants.{Add, Sub, Mul}
+use Rattle.bj_base.specs.declared.span.Span.{Span}
 use Rattle.bj_core.specs.declared.types.Ty.TheVariants as t
 use Rattle.bj_core.specs.declared.types.Val.{Val}
 use Rattle.bj_core.specs.declared.types.Val.TheVariants as val

@@ -14,9 +14,9 @@ use Rattle.bj_sum.specs.declared.cells.CellCall.TheVariants.{Add, Get}
 use Rattle.bj_sum.specs.Sums.{IsSum}
 use Rattle.bj_exec.specs.declared.thread.Thread.{Thread}
 use Rattle.bj_machine.specs.Shown.{Shown, Stands, IsReady}
-use Rattle.bj_history.specs.declared.names.BoundName.{BoundName}
-use Rattle.bj_history.specs.Events.{done_event}
-use Rattle.bj_history.specs.Names.{binds}
+use Rattle.bj_bench.specs.declared.names.BoundName.{BoundName}
+use Rattle.bj_say.specs.Events.{done_event}
+use Rattle.bj_bench.specs.Names.{binds}
 use Rattle.bj_history.specs.Replies.{After, Answers, LineOutcome, local, start_place}
 use Rattle.bj_reply.specs.declared.asking.Asked.{Asked}
 
@@ -65,8 +65,3 @@ call_on name object method args = record {
   scope = local name object ∷ [];
   gives = ty.Int;
 }
-
--- the event of the end of a term, if it has ended
-abbrev pub end_event : Program → Option (List ℕ) → Option Done → List ℕ
-end_event program name None = []
-end_event program name (Some done) = done_event program name done

@@ -2,26 +2,24 @@ ghost use Rattle.std.specs.Prelude.{◌≡◌, ◌≤◌, IfOk, Ok, OnErr, lengt
 ghost use Rattle.bj_command.specs.Words.{IsForm, IsShort, form_in, takes_memory};
 ghost use Rattle.bj_history.specs.History.{After, loaded};
 ghost use Rattle.bj_history.specs.Replies.{call_outcome, cell_call_outcome, creation_begins, creation_outcome, inspect_outcome, new_outcome, outcome_of, pad_outcome};
-ghost use Rattle.bj_history.specs.Names.{is_taken as spec_is_taken};
+ghost use Rattle.bj_bench.specs.Names.{is_taken as spec_is_taken};
 ghost use Rattle.bj_machine.specs.Shown.{Stands};
 ghost use Rattle.bj_sum.specs.Cells.{call_of, creation_of};
 ghost use Rattle.bj_sum.specs.Reading.{sum_of};
 ghost use Rattle.bj_reply.specs.Asking.{HasSum, IsAsked, IsFor, IsForAny, IsSumIfAny};
 
-use crate::Bench;
 use crate::outcomes::{
     nothing, opens, reads, reads_if_free, replied, says, says_bad, says_of, starts, starts_if_free,
 };
-use crate::plain::is_plain;
 use crate::terms::{call_name, call_term, cell_in, new_term, pad_term};
-use crate::viewing::inspection;
+use bj_bench::{Bench, is_plain};
 use bj_builtin::{builtin_is_a_program, calls_of_cells_are_typed, new_cells_are_typed};
 use bj_command::{Command, LineFault, read_line, read_pad_line};
 use bj_core::{Bytes, Expr, Name, NoMemory};
 use bj_exec::Thread;
-use bj_history::Wait;
 use bj_machine::Machine;
 use bj_reading::JavaText;
+use bj_say::{Wait, inspection};
 use bj_sum::{CellCall, cells_are_read, read_call, read_creation, read_sum, sums_are_of_sums};
 use std::alloc::Global;
 

@@ -1,6 +1,6 @@
 ghost use Rattle.std.specs.Prelude.{◌≡◌, ◌<◌, ◌++◌, [], IfOk, codes, decimal, length};
 ghost use Rattle.bj_eval.specs.Typed.{IsTyped};
-ghost use Rattle.bj_history.specs.Names.{binds};
+ghost use Rattle.bj_bench.specs.Names.{binds};
 ghost use Rattle.bj_history.specs.Replies.{says as spec_says, reads as spec_reads, starts as spec_starts, opens as spec_opens, if_free};
 ghost use Rattle.bj_machine.specs.Shown.{Shown};
 ghost use Rattle.bj_reply.specs.Asking.{IsAsked, IsForAny};
@@ -8,9 +8,9 @@ ghost use Rattle.bj_reply.specs.Asking.{IsAsked, IsForAny};
 use crate::asking::Asked;
 use crate::terms::name_bound;
 use bj_core::{Bytes, Name, NoMemory, Term, TermKind};
-use bj_history::Wait;
 use bj_machine::Machine;
 use bj_reading::{JavaText, reading_reply};
+use bj_say::Wait;
 use std::alloc::Global;
 
 /// A reply, with which nothing begins. Takes no memory.

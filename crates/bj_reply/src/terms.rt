@@ -2,7 +2,7 @@ ghost use Rattle.std.specs.Prelude.{◌≡◌, ◌∷◌, [], IfOk, Some};
 ghost use Rattle.bj_core.specs.declared.tree.Expr.TheVariants as expr;
 ghost use Rattle.bj_core.specs.declared.tree.Stmt.TheVariants.{Return};
 ghost use Rattle.bj_builtin.specs.Console.{new_cell as spec_new_cell};
-ghost use Rattle.bj_history.specs.Names.{binds};
+ghost use Rattle.bj_bench.specs.Names.{binds};
 ghost use Rattle.bj_history.specs.Replies.{start_place, pad_term as spec_pad_term, new_term as spec_new_term, call_term as spec_call_term, cell_in as spec_cell_in, call_name as spec_call_name, local as spec_local};
 ghost use Rattle.bj_reply.specs.Asking.{call_on};
 

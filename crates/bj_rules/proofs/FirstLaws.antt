@@ -4,7 +4,7 @@ use Rattle.std.proofs.lemmas.List.{append_assoc}
 use Rattle.std.proofs.lemmas.Map.Views.{Contains-from_any, list_any-from_Contains}
 use Rattle.std.specs.Prelude.{not, if◌then◌else◌}
 use Rattle.std.specs.List.{list_any, AllByRecursion, Contains}
-use Rattle.bj_core.specs.declared.fault.FaultCode.TheVariants as codes
+use Rattle.bj_base.specs.declared.fault.FaultCode.TheVariants as codes
 use Rattle.bj_tree.specs.declared.class.Modifier.{Modifier}
 use Rattle.bj_tree.specs.declared.class.ModifierKind.{ModifierKind}
 use Rattle.bj_rules.specs.declared.misfit.Misfit.{Misfit}

@@ -1,7 +1,7 @@
 -- What is wrong with a part of a class, and which of several such things comes first.
 use Rattle.std.specs.Prelude.{Bool, if◌then◌else◌, Option, None, Some, List, [], ◌∷◌}
-use Rattle.bj_core.specs.declared.types.Span.{Span}
-use Rattle.bj_core.specs.declared.fault.FaultCode.{FaultCode}
+use Rattle.bj_base.specs.declared.span.Span.{Span}
+use Rattle.bj_base.specs.declared.fault.FaultCode.{FaultCode}
 use Rattle.bj_rules.specs.declared.misfit.Misfit.{Misfit}
 
 -- a misfit, unless the test holds

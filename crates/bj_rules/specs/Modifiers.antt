@@ -2,7 +2,7 @@
 use Rattle.std.specs.Prelude.{◌≡◌, ◌⊎◌, Bool, true, false, ◌&&◌, ◌||◌, not, if◌then◌else◌, Option, None, Some, List, [], ◌∷◌, ◌++◌}
 use Rattle.std.specs.List.{list_any, AllByRecursion, Contains}
 use denote.Enum.Bare.{sameb}
-use Rattle.bj_core.specs.declared.fault.FaultCode.TheVariants as codes
+use Rattle.bj_base.specs.declared.fault.FaultCode.TheVariants as codes
 use Rattle.bj_tree.specs.declared.class.Modifier.{Modifier}
 use Rattle.bj_tree.specs.declared.class.ModifierKind.{ModifierKind}
 use Rattle.bj_tree.specs.declared.class.ModifierKind.TheVariants as m

@@ -3,15 +3,15 @@ use Rattle.std.specs.Prelude.{ℕ, Bool, true, false, ◌&&◌, ◌||◌, not, n
 use Rattle.std.specs.List.{list_any}
 use Rattle.std.specs.Str.{bytes_eq}
 use lib.Chars.{codes}
-use Rattle.bj_core.specs.declared.types.Span.{Span}
-use Rattle.bj_core.specs.declared.fault.FaultCode.TheVariants as codes_of
+use Rattle.bj_base.specs.declared.span.Span.{Span}
+use Rattle.bj_base.specs.declared.fault.FaultCode.TheVariants as codes_of
 use Rattle.bj_tree.specs.declared.class.AnnotationTree.{AnnotationTree}
 use Rattle.bj_tree.specs.declared.class.ClassKind.{ClassKind}
 use Rattle.bj_tree.specs.declared.class.ImportTree.{ImportTree}
 use Rattle.bj_tree.specs.declared.class.ClassKind.TheVariants as kinds
 use Rattle.bj_tree.specs.declared.class.Modifier.{Modifier}
 use Rattle.bj_tree.specs.declared.class.ModifierKind.TheVariants as m
-use Rattle.bj_tree.specs.declared.expr.ExprTree.{ExprTree, out-ExprTree}
+use Rattle.bj_expr_tree.specs.declared.expr.ExprTree.{ExprTree, out-ExprTree}
 use Rattle.bj_tree.specs.declared.member.MethodTree.{MethodTree}
 use Rattle.bj_tree.specs.declared.member.ConstructorTree.{ConstructorTree}
 use Rattle.bj_tree.specs.declared.member.InitializerTree.{InitializerTree}
@@ -20,7 +20,8 @@ use Rattle.bj_tree.specs.declared.member.MemberTree.{MemberTree}
 use Rattle.bj_tree.specs.declared.member.MemberTree.TheVariants as members
 use Rattle.bj_tree.specs.declared.stmt.StmtTree.{StmtTree, out-StmtTree}
 use Rattle.bj_tree.specs.declared.stmt.VariableTree.{VariableTree}
-use Rattle.bj_tree.specs.Count.{nodes_of, nodes_of_expr}
+use Rattle.bj_expr_tree.specs.Count.{nodes_of_expr}
+use Rattle.bj_tree.specs.Count.{nodes_of}
 use Rattle.bj_rules.specs.declared.misfit.Misfit.{Misfit}
 use Rattle.bj_rules.specs.declared.place.Place.{Place}
 use Rattle.bj_rules.specs.declared.place.Place.TheVariants as places

@@ -4,7 +4,7 @@ ghost use Rattle.bj_rules.specs.Words as spelled;
 
 use crate::Misfit;
 use crate::words::is_one_of;
-use bj_core::FaultCode;
+use bj_base::FaultCode;
 use bj_tree::AnnotationTree;
 
 const NAMES: [&str; 4] = ["Override", "Test", "Before", "After"];

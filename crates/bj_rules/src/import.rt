@@ -6,7 +6,7 @@ ghost use Rattle.bj_rules.specs.Rules as rules;
 
 use crate::Misfit;
 use crate::words::{is_one_of, is_word};
-use bj_core::FaultCode;
+use bj_base::FaultCode;
 use bj_tree::{ImportTree, NamedPlace};
 
 const LANG: [&str; 35] = [

@@ -1,5 +1,5 @@
 ghost use Rattle.std.specs.Prelude.{◌≡◌};
-ghost use Rattle.bj_core.specs.declared.fault.FaultCode.TheVariants as codes_of;
+ghost use Rattle.bj_base.specs.declared.fault.FaultCode.TheVariants as codes_of;
 ghost use Rattle.bj_rules.specs.Misfits as misfits;
 ghost use Rattle.bj_rules.specs.Rules as spec;
 
@@ -8,7 +8,7 @@ use crate::modifier::has;
 use crate::size::{block_misfit, body_misfit, values_misfit};
 use crate::words::is_text;
 use crate::{Misfit, Place};
-use bj_core::{FaultCode, Span};
+use bj_base::{FaultCode, Span};
 use bj_tree::{
     ClassKind, ConstructorTree, FieldTree, InitializerTree, MemberTree, MethodTree, Modifier,
     ModifierKind, StmtTree,

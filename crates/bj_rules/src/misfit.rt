@@ -1,4 +1,4 @@
-use bj_core::{FaultCode, Span};
+use bj_base::{FaultCode, Span};
 
 /// The first thing that is wrong with a part of a class.
 #[derive(Clone, Copy, Debug, PartialEq, Eq)]

@@ -4,7 +4,7 @@ ghost use Rattle.bj_tree.specs.declared.class.Modifier.{Modifier};
 ghost use Rattle.bj_rules.specs.Modifiers as spec;
 
 use crate::{Misfit, Place};
-use bj_core::FaultCode;
+use bj_base::FaultCode;
 use bj_tree::{Modifier, ModifierKind};
 
 #[tactic(auto, unfolding(crate::specs::Modifiers::same_kind))]

@@ -3,7 +3,7 @@ ghost use Rattle.bj_rules.specs.Rules as spec;
 
 use crate::Misfit;
 use crate::start::{expr_start, stmt_start};
-use bj_core::{FaultCode, Span};
+use bj_base::{FaultCode, Span};
 use bj_tree::{ExprTree, StmtTree, VariableTree, expr_nodes, nodes};
 use sqlite_items::Boxed;
 

@@ -1,9 +1,9 @@
 ghost use Rattle.std.specs.Prelude.{◌≡◌};
-ghost use Rattle.bj_tree.specs.declared.expr.ExprTree.{out-ExprTree};
+ghost use Rattle.bj_expr_tree.specs.declared.expr.ExprTree.{out-ExprTree};
 ghost use Rattle.bj_tree.specs.declared.stmt.StmtTree.{out-StmtTree};
 ghost use Rattle.bj_rules.specs.Starts as spec;
 
-use bj_core::Span;
+use bj_base::Span;
 use bj_tree::{ExprTree, StmtTree};
 
 /// Where the first token of an expression stands.

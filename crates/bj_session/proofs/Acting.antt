@@ -8,20 +8,20 @@ use Rattle.bj_core.specs.declared.action.Done.{Done}
 use Rattle.bj_core.specs.declared.entry.Entry.{Entry}
 use Rattle.bj_core.specs.declared.entry.Entry.TheVariants.{Act}
 use Rattle.bj_core.specs.declared.program.Program.{Program}
-use Rattle.bj_history.specs.declared.names.BoundName.{BoundName}
+use Rattle.bj_bench.specs.declared.names.BoundName.{BoundName}
 use Rattle.bj_history.specs.declared.opening.Opening.{Opening}
-use Rattle.bj_history.specs.declared.opening.Wait.{Wait}
-use Rattle.bj_history.specs.Events.{act_event}
+use Rattle.bj_say.specs.declared.wait.Wait.{Wait}
+use Rattle.bj_say.specs.Events.{act_event}
 use Rattle.bj_history.specs.History.{After, after, actions, loaded, setting, May, Legal}
 use Rattle.bj_history.specs.Names.{bound_by}
 use Rattle.bj_machine.specs.Kept.{LogValue}
 use Rattle.bj_machine.specs.World.{Setting, World, reaction, answer_of, is_enabled, next_action, MayAct}
 use Rattle.bj_machine.specs.Shown.{Shown, Stands, HasActed as MachineActed, HasMoved, setting_of, end_in, end_of}
-use Rattle.bj_reply.specs.Asking.{end_event}
-use Rattle.bj_session.specs.Sending.{IsSent}
+use Rattle.bj_say.specs.Events.{end_event}
+use Rattle.bj_stream.specs.Sending.{IsSent}
 use Rattle.bj_session.specs.Desk.{Desk, IsKept, HasActed, world_of}
-use Rattle.bj_session.specs.declared.sending.Sent.{Sent}
-use Rattle.bj_session.specs.declared.sending.Sent.TheVariants.{Failed, NoMemory}
+use Rattle.bj_stream.specs.declared.sending.Sent.{Sent}
+use Rattle.bj_stream.specs.declared.sending.Sent.TheVariants.{Failed, NoMemory}
 use Rattle.bj_session.proofs.Notes.{unnoted, noted}
 
 reply_by : (o : Setting) (w : World) (r : Option Answer) → answer_of (reaction o w) ≡ r → is_some r ≡ true → (x : Answer) × (answer_of (reaction o w) ≡ Some x)

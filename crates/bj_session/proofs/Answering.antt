@@ -7,15 +7,15 @@ use Rattle.bj_core.specs.declared.entry.Entry.TheVariants.{Line, Pause, Act}
 use Rattle.bj_command.specs.Items.{items, IsPrefixOf}
 use Rattle.bj_command.specs.Words.{is_quit}
 use Rattle.bj_history.specs.declared.opening.Opening.{Opening}
-use Rattle.bj_history.specs.declared.opening.Wait.{Wait}
+use Rattle.bj_say.specs.declared.wait.Wait.{Wait}
 use Rattle.bj_history.specs.History.{after, lines, has_quit, has_pause, line_is_due, pause_is_due, Fits}
-use Rattle.bj_session.specs.Reading.{Reader, TakesLine, is_too_long}
+use Rattle.bj_stream.specs.Reading.{Reader, TakesLine, is_too_long}
 use Rattle.bj_session.specs.Desk.{Desk, HasNoted, HasRested, HasFollowed, HasLined, MayTake, IsRested, world_of}
 use Rattle.bj_session.specs.Session.{Session, Goes, IsSound, IsOver, IsLive, IsReading, ends_by_quit, is_quiet, todo, turns_of_wait, turns_of_pause, ending_after, ending_lined, ends_at}
 use Rattle.bj_session.specs.declared.ends.Ending.{Ending}
 use Rattle.bj_session.specs.declared.ends.Ending.TheVariants as ending
-use Rattle.bj_session.specs.declared.sending.Sent.{Sent}
-use Rattle.bj_session.specs.declared.sending.Sent.TheVariants.{All, Failed, NoMemory}
+use Rattle.bj_stream.specs.declared.sending.Sent.{Sent}
+use Rattle.bj_stream.specs.declared.sending.Sent.TheVariants.{All, Failed, NoMemory}
 use Rattle.bj_history.proofs.Acts.{acts_line}
 use Rattle.bj_session.proofs.Histories.{wait_of_pad, quit_silent}
 use Rattle.bj_session.proofs.Overs.{old_not_over, over_of, not_over_entry, closed_quiet}

@@ -5,17 +5,17 @@ use Rattle.bj_core.specs.declared.entry.Entry.{Entry}
 use Rattle.bj_core.specs.declared.entry.Entry.TheVariants.{Woke}
 use Rattle.bj_core.specs.declared.entry.Reason.{Reason}
 use Rattle.bj_history.specs.declared.opening.Opening.{Opening}
-use Rattle.bj_history.specs.declared.opening.Wait.{Wait}
-use Rattle.bj_history.specs.declared.opening.Wait.TheVariants.{Silent}
+use Rattle.bj_say.specs.declared.wait.Wait.{Wait}
+use Rattle.bj_say.specs.declared.wait.Wait.TheVariants.{Silent}
 use Rattle.bj_history.specs.History.{after, lines, has_pause, line_is_due, Fits, Wakes}
 use Rattle.bj_command.specs.Items.{items, IsPrefixOf}
-use Rattle.bj_session.specs.Reading.{Reader, is_too_long}
+use Rattle.bj_stream.specs.Reading.{Reader, is_too_long}
 use Rattle.bj_session.specs.Desk.{Desk, HasNoted, is_last, world_of}
 use Rattle.bj_session.specs.Session.{Goes, IsSound, IsOver, IsLive, IsClosing, IsCut, ends_by_quit, is_quiet, is_closed, ending_after, ending_woken}
 use Rattle.bj_session.specs.declared.ends.Ending.{Ending}
 use Rattle.bj_session.specs.declared.ends.Ending.TheVariants as ending
-use Rattle.bj_session.specs.declared.sending.Sent.{Sent}
-use Rattle.bj_session.specs.declared.sending.Sent.TheVariants.{All, Failed, NoMemory}
+use Rattle.bj_stream.specs.declared.sending.Sent.{Sent}
+use Rattle.bj_stream.specs.declared.sending.Sent.TheVariants.{All, Failed, NoMemory}
 use Rattle.bj_history.proofs.Pauses.{silent_pause}
 use Rattle.bj_history.proofs.Turns.{turn_before_waking}
 use Rattle.bj_session.proofs.Overs.{not_all_read, old_not_over, over_of, not_over_noted, closed_woken, last_closed, silent_closed}

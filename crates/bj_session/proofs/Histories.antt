@@ -16,9 +16,9 @@ use Rattle.bj_command.proofs.Quits.{quit_in}
 use Rattle.bj_reading.specs.declared.text.JavaText.TheVariants as java
 use Rattle.bj_sum.specs.Reading.{sum_of}
 use Rattle.bj_history.specs.declared.opening.Opening.{Opening}
-use Rattle.bj_history.specs.declared.opening.Wait.{Wait}
+use Rattle.bj_say.specs.declared.wait.Wait.{Wait}
 use Rattle.bj_history.specs.Replies.{Answers, LineOutcome, says, reads, starts, pad_term, pad_outcome, outcome_of}
-use Rattle.bj_history.specs.Events.{woke_event, written_line}
+use Rattle.bj_say.specs.Events.{woke_event, written_line}
 use Rattle.bj_history.specs.History.{After, after, after_line, wait_after, loaded, IsReply}
 use Rattle.bj_history.proofs.Outcomes.{line_case, quit_outcome}
 

@@ -1,5 +1,3 @@
-pub mod Parts
-pub mod Readers
 pub mod Notes
 pub mod Histories
 pub mod Overs

@@ -5,9 +5,9 @@ use Rattle.bj_core.specs.declared.entry.Entry.TheVariants.{Line}
 use Rattle.bj_core.specs.declared.frame.Term.{Term}
 use Rattle.bj_command.specs.Words.{form_in}
 use Rattle.bj_exec.specs.declared.thread.Thread.{Thread}
-use Rattle.bj_history.specs.declared.names.BoundName.{BoundName}
+use Rattle.bj_bench.specs.declared.names.BoundName.{BoundName}
 use Rattle.bj_history.specs.declared.opening.Opening.{Opening}
-use Rattle.bj_history.specs.declared.opening.Wait.{Wait}
+use Rattle.bj_say.specs.declared.wait.Wait.{Wait}
 use Rattle.bj_history.specs.Names.{bound_by}
 use Rattle.bj_history.specs.Replies.{outcome_of}
 use Rattle.bj_history.specs.History.{After, after, after_line, after_outcome, actions, line_outcome, loaded, started, wait_after, Fits, Legal}

@@ -4,10 +4,10 @@ use Rattle.std.proofs.lemmas.List.{append-nil}
 use Rattle.bj_io.specs.Told.{behind-nil, Rose}
 use Rattle.bj_core.specs.declared.entry.Entry.{Entry}
 use Rattle.bj_history.specs.History.{after, written, printed}
-use Rattle.bj_session.specs.Sending.{IsSent}
+use Rattle.bj_stream.specs.Sending.{IsSent}
 use Rattle.bj_session.specs.Desk.{Desk, HasNoted}
-use Rattle.bj_session.specs.declared.sending.Sent.{Sent}
-use Rattle.bj_session.specs.declared.sending.Sent.TheVariants.{All, Failed, NoMemory}
+use Rattle.bj_stream.specs.declared.sending.Sent.{Sent}
+use Rattle.bj_stream.specs.declared.sending.Sent.TheVariants.{All, Failed, NoMemory}
 
 -- for want of memory nothing was added
 pub unnoted : (entry : Entry) (old new : Desk) → new.opening ≡ old.opening → new.log ≡ old.log → new.held ≡ old.held → new.faults ≡ old.faults → HasNoted NoMemory entry old new

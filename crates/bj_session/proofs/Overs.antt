@@ -5,16 +5,16 @@ use Rattle.bj_core.specs.declared.entry.Entry.{Entry}
 use Rattle.bj_core.specs.declared.entry.Entry.TheVariants.{Line, Woke}
 use Rattle.bj_core.specs.declared.entry.Reason.{Reason}
 use Rattle.bj_history.specs.declared.opening.Opening.{Opening}
-use Rattle.bj_history.specs.declared.opening.Wait.{Wait}
-use Rattle.bj_history.specs.declared.opening.Wait.TheVariants.{Silent, Told}
-use Rattle.bj_history.specs.Events.{woke_event}
+use Rattle.bj_say.specs.declared.wait.Wait.{Wait}
+use Rattle.bj_say.specs.declared.wait.Wait.TheVariants.{Silent, Told}
+use Rattle.bj_say.specs.Events.{woke_event}
 use Rattle.bj_history.specs.History.{after, lines, has_quit, has_pause}
 use Rattle.bj_command.specs.Items.{items, items_from, line_then, without_cr, is_lf}
 use Rattle.bj_command.specs.Words.{is_quit}
-use Rattle.bj_session.specs.Reading.{Reader, MayStill}
+use Rattle.bj_stream.specs.Reading.{Reader, MayStill}
 use Rattle.bj_session.specs.Desk.{Desk, HasNoted, is_last}
 use Rattle.bj_session.specs.Session.{Session, IsSound, IsOver, IsReading, still, ends_by_quit, is_quiet, is_woken, is_closed}
-use Rattle.bj_session.specs.declared.sending.Sent.{Sent}
+use Rattle.bj_stream.specs.declared.sending.Sent.{Sent}
 use Rattle.bj_session.proofs.Histories.{silent_in_pad}
 
 some_if : (b : Bool) (xs ys : List (List ℕ)) → 0 < length xs → 0 < length ys → 0 < length (if b then xs else ys)

@@ -8,15 +8,15 @@ use Rattle.bj_history.specs.declared.opening.Opening.{Opening}
 use Rattle.bj_history.specs.History.{after, written, lines, has_quit, has_pause}
 use Rattle.bj_command.specs.Items.{items, IsPrefixOf, line_then}
 use Rattle.bj_command.specs.Words.{is_quit}
-use Rattle.bj_session.specs.Reading.{Reader, HasPolled, TakesLine, MayStill, is_too_long}
+use Rattle.bj_stream.specs.Reading.{Reader, HasPolled, TakesLine, MayStill, is_too_long}
 use Rattle.bj_session.specs.Desk.{Desk, HasNoted}
 use Rattle.bj_session.specs.Session.{Session, Start, StandsFor, Goes, Holds, IsSound, IsLive, IsPadding, IsClosing, IsReading, IsCut, is_closed, still, todo, ending_after, ending_polled}
 use Rattle.bj_session.specs.declared.ends.Ending.{Ending}
 use Rattle.bj_session.specs.declared.ends.Ending.TheVariants as ending
-use Rattle.bj_session.specs.declared.reader.Polled.{Polled}
-use Rattle.bj_session.specs.declared.reader.Polled.TheVariants.{Got, NotYet, End, Failed, NoMemory}
-use Rattle.bj_session.specs.declared.sending.Sent.{Sent}
-use Rattle.bj_session.specs.declared.sending.Sent.TheVariants.{All, Failed as Refused, NoMemory as NoRoom}
+use Rattle.bj_stream.specs.declared.reader.Polled.{Polled}
+use Rattle.bj_stream.specs.declared.reader.Polled.TheVariants.{Got, NotYet, End, Failed, NoMemory}
+use Rattle.bj_stream.specs.declared.sending.Sent.{Sent}
+use Rattle.bj_stream.specs.declared.sending.Sent.TheVariants.{All, Failed as Refused, NoMemory as NoRoom}
 use Rattle.bj_session.proofs.Overs.{ends_has, not_all_read, closed_in_pad}
 
 -- the source, and what was got of it, are the same

@@ -5,15 +5,15 @@ use Rattle.bj_core.specs.declared.entry.Entry.{Entry}
 use Rattle.bj_core.specs.declared.entry.Entry.TheVariants.{Line, Pause, Act}
 use Rattle.bj_core.specs.declared.action.Answer.{Answer}
 use Rattle.bj_history.specs.declared.opening.Opening.{Opening}
-use Rattle.bj_history.specs.declared.opening.Wait.{Wait}
-use Rattle.bj_history.specs.declared.opening.Wait.TheVariants.{Silent}
-use Rattle.bj_history.specs.declared.names.BoundName.{BoundName}
+use Rattle.bj_say.specs.declared.wait.Wait.{Wait}
+use Rattle.bj_say.specs.declared.wait.Wait.TheVariants.{Silent}
+use Rattle.bj_bench.specs.declared.names.BoundName.{BoundName}
 use Rattle.bj_history.specs.History.{after, actions, setting, Legal, May, IsReply, written, printed, Wakes, HasHadATurn, has_quit, line_is_due}
 use Rattle.bj_history.specs.Names.{bound_by}
 use Rattle.bj_machine.specs.World.{World, is_enabled}
 use Rattle.bj_machine.specs.Shown.{Shown, Stands, setting_of}
-use Rattle.bj_session.specs.declared.sending.Sent.{Sent}
-use Rattle.bj_session.specs.declared.sending.Sent.TheVariants.{All, Failed}
+use Rattle.bj_stream.specs.declared.sending.Sent.{Sent}
+use Rattle.bj_stream.specs.declared.sending.Sent.TheVariants.{All, Failed}
 use Rattle.bj_session.specs.declared.desk.Decision.{Decision}
 use Rattle.bj_session.specs.declared.desk.Decision.TheVariants.{Wake, Act as Acts, NoMemory}
 

@@ -1,5 +1,3 @@
-pub mod Sending
-pub mod Reading
 pub mod Endings
 pub mod Naming
 pub mod Desk

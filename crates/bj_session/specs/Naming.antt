@@ -7,8 +7,8 @@ use Rattle.bj_exec.specs.declared.thread.Thread.{Thread}
 use Rattle.bj_machine.specs.Shown.{Shown, IsReady, HasBegun, HasNoted}
 use Rattle.bj_core.specs.declared.entry.Entry.TheVariants.{Line}
 use Rattle.bj_reply.specs.declared.asking.Asked.{Asked}
-use Rattle.bj_history.specs.declared.names.BoundName.{BoundName}
-use Rattle.bj_history.specs.Names.{bound_name}
+use Rattle.bj_bench.specs.declared.names.BoundName.{BoundName}
+use Rattle.bj_bench.specs.Names.{bound_name}
 
 -- a prepared term begins, where there is one
 abbrev pub MayBegin : Shown → Option Thread → Type 0

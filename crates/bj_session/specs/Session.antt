@@ -4,18 +4,18 @@ use Rattle.bj_io.specs.Told.{before, behind, Rose}
 use Rattle.bj_core.specs.declared.entry.Entry.{Entry}
 use Rattle.bj_core.specs.declared.entry.Entry.TheVariants.{Line, Woke}
 use Rattle.bj_history.specs.declared.opening.Opening.{Opening}
-use Rattle.bj_history.specs.declared.opening.Wait.{Wait}
-use Rattle.bj_history.specs.declared.opening.Wait.TheVariants.{Silent}
+use Rattle.bj_say.specs.declared.wait.Wait.{Wait}
+use Rattle.bj_say.specs.declared.wait.Wait.TheVariants.{Silent}
 use Rattle.bj_command.specs.Items.{items, IsPrefixOf}
 use Rattle.bj_command.specs.Words.{is_quit}
 use Rattle.bj_history.specs.History.{after, lines, written, has_quit, has_pause, line_is_due, HasHadATurn}
-use Rattle.bj_session.specs.Reading.{Reader, MayStill, is_too_long, fresh_reader}
+use Rattle.bj_stream.specs.Reading.{Reader, MayStill, is_too_long, fresh_reader}
 use Rattle.bj_session.specs.Endings.{status_of}
 use Rattle.bj_session.specs.Desk.{Desk, fresh_desk, world_of, IsRested}
-use Rattle.bj_session.specs.declared.reader.Polled.{Polled}
-use Rattle.bj_session.specs.declared.reader.Polled.TheVariants.{Got, NotYet, End, Failed as PollFailed, NoMemory as NoRoom}
-use Rattle.bj_session.specs.declared.sending.Sent.{Sent}
-use Rattle.bj_session.specs.declared.sending.Sent.TheVariants.{All, Failed, NoMemory}
+use Rattle.bj_stream.specs.declared.reader.Polled.{Polled}
+use Rattle.bj_stream.specs.declared.reader.Polled.TheVariants.{Got, NotYet, End, Failed as PollFailed, NoMemory as NoRoom}
+use Rattle.bj_stream.specs.declared.sending.Sent.{Sent}
+use Rattle.bj_stream.specs.declared.sending.Sent.TheVariants.{All, Failed, NoMemory}
 use Rattle.bj_session.specs.declared.ends.Ending.{Ending}
 use Rattle.bj_session.specs.declared.ends.Ending.TheVariants as ending
 

@@ -8,13 +8,15 @@ ghost use Rattle.bj_session.specs.Desk.{fresh_desk, world_of, is_last, HasNoted,
 
 use crate::entering::enter;
 use crate::naming::{bind_end, release, unbind};
-use crate::{Sent, put_all};
+use bj_bench::Bench;
 use bj_code::Code;
 use bj_core::{Bytes, Entry, Name, Program, Reason, Seq};
-use bj_history::{Opening, Wait};
+use bj_history::Opening;
 use bj_io::Sink;
 use bj_machine::{Log, Machine, Step};
-use bj_reply::{Asked, Bench, ask, end_text, woke_text, written_text};
+use bj_reply::{Asked, ask};
+use bj_say::{Wait, end_text, woke_text, written_text};
+use bj_stream::{Sent, put_all};
 use std::alloc::Global;
 use std::marker::Model;
 

@@ -7,9 +7,9 @@ ghost use Rattle.bj_session.specs.Naming.{MayBegin, Begins, HasEntered, binds_th
 
 use bj_core::{Bytes, Entry, Name, NoMemory};
 use bj_exec::Thread;
-use bj_history::Wait;
 use bj_machine::Machine;
 use bj_reply::Asked;
+use bj_say::Wait;
 
 /// Lets a name go. Its drop stands here alone, so that no caller's proof goes through it.
 fn forget(_name: Option<Name>) {}

@@ -2,11 +2,11 @@
 
 ghost use Rattle.std.specs.Prelude.{◌≡◌, IfOk, OnErr, List, Some};
 ghost use Rattle.bj_core.specs.declared.action.Done.TheVariants.{Value as DoneValue};
-ghost use Rattle.bj_history.specs.declared.names.BoundName.{BoundName as BoundNameOf};
+ghost use Rattle.bj_bench.specs.declared.names.BoundName.{BoundName as BoundNameOf};
 ghost use Rattle.bj_session.specs.Naming.{names_at_end, binds_after, HasUndone};
 
+use bj_bench::Bench;
 use bj_core::{Copies, Done, Name, NoMemory, Val};
-use bj_reply::Bench;
 use std::alloc::Global;
 
 /// Lets a name go. Its drop stands here alone, so that no caller's proof goes through it.

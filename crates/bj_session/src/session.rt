@@ -6,13 +6,14 @@ ghost use Rattle.bj_machine.specs.World.{is_enabled};
 ghost use Rattle.bj_session.specs.Desk.{world_of};
 ghost use Rattle.bj_session.specs.Session.{Goes, IsSound, todo, ending_after, ending_polled, ending_lined, ending_woken, ends_at, fresh_session, HasStatus};
 
-use crate::{Decision, Desk, Ending, Ends, Finish, Polled, Reader, Sent, Taken, Turn};
+use crate::{Decision, Desk, Ending, Ends, Finish, Turn};
 use bj_code::Code;
 use bj_command::is_quit;
 use bj_core::{Limits, Program, Reason};
 use bj_history::Opening;
 use bj_io::{Clock, Sink, Source};
 use bj_machine::Log;
+use bj_stream::{Polled, Reader, Sent, Taken};
 use std::alloc::Global;
 use std::marker::Model;
 

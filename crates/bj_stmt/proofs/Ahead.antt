@@ -1,10 +1,10 @@
 -- What the tests on the next tokens look at is looked at by the readers behind them, too.
 use Rattle.std.proofs.Common.{◌≡◌, ℕ, zero, suc, ◌<◌, ◌≤◌, Bool, true, false, cond, refl, sym, ap, ◌∙◌, subst, arith, le_refl, List, [], ◌∷◌}
 use Rattle.std.specs.Prelude.{◌||◌, ◌&&◌}
-use Rattle.bj_core.specs.declared.types.Span.{Span}
-use Rattle.bj_lex.specs.declared.token.Token.{Token}
-use Rattle.bj_tree.specs.declared.expr.ExprTree.{ExprTree}
-use Rattle.bj_tree.specs.declared.expr.ExprTree.TheVariants as tree
+use Rattle.bj_base.specs.declared.span.Span.{Span}
+use Rattle.bj_token.specs.declared.token.Token.{Token}
+use Rattle.bj_expr_tree.specs.declared.expr.ExprTree.{ExprTree}
+use Rattle.bj_expr_tree.specs.declared.expr.ExprTree.TheVariants as tree
 use Rattle.bj_tree.specs.declared.stmt.StmtTree.{StmtTree}
 use Rattle.bj_tree.specs.declared.stmt.StmtTree.TheVariants as stmt
 use Rattle.bj_grammar.specs.declared.terminal.Terminal.{Terminal}

@@ -2,13 +2,13 @@
 use Rattle.std.proofs.Common.{◌≡◌, ℕ, zero, suc, ◌≤◌, inl, inr, List, [], ◌∷◌, ◌++◌, map, Option, None, Some, refl, sym, ap, ◌∙◌, subst, arith}
 use Rattle.std.proofs.lemmas.Bool.{cases_lt}
 use Rattle.std.specs.Prelude.{max, Contains}
-use Rattle.bj_core.specs.declared.types.Span.{Span}
-use Rattle.bj_tree.specs.declared.expr.ExprTree.{ExprTree}
+use Rattle.bj_base.specs.declared.span.Span.{Span}
+use Rattle.bj_expr_tree.specs.declared.expr.ExprTree.{ExprTree}
 use Rattle.bj_tree.specs.declared.stmt.VariableTree.{VariableTree}
 use Rattle.bj_tree.specs.declared.stmt.StmtTree.{StmtTree, roll-StmtTree, map-StmtTree, ind-StmtTree}
 use Rattle.bj_tree.specs.declared.stmt.StmtTree.TheVariants as stmt
 use Rattle.bj_tree.specs.declared.stmt.StmtTree.TheOpen.{StmtTree-F}
-use Rattle.bj_tree.specs.Size.{most, height_of}
+use Rattle.bj_expr_tree.specs.Size.{most, height_of}
 use Rattle.bj_expr.specs.Nodes.{leaf, beside, all_beside, nodes_at}
 use Rattle.bj_expr.proofs.NodeHeights.{low_nodes}
 use Rattle.bj_stmt.specs.Heights.{variable_height, stmt_height}

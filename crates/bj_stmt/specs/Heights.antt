@@ -4,7 +4,7 @@ use Rattle.bj_tree.specs.declared.stmt.VariableTree.{VariableTree}
 use Rattle.bj_tree.specs.declared.stmt.StmtTree.{StmtTree}
 use Rattle.bj_tree.specs.declared.stmt.StmtTree.TheOpen.{StmtTree-F}
 use Rattle.bj_tree.specs.declared.stmt.StmtTree.TheFolds.{fold-StmtTree}
-use Rattle.bj_tree.specs.Size.{most, height_of}
+use Rattle.bj_expr_tree.specs.Size.{most, height_of}
 
 -- a variable is a node, and its initializer is below it
 abbrev pub variable_height : VariableTree → ℕ

@@ -1,7 +1,7 @@
 -- Where the nodes of a statement stand, by how many nodes are above them. Its variables are nodes, and so are those of its expressions.
 use Rattle.std.specs.Prelude.{ℕ, suc, ◌≤◌, List, map, Option, None, Some, Contains}
-use Rattle.bj_core.specs.declared.types.Span.{Span}
-use Rattle.bj_tree.specs.declared.expr.ExprTree.{ExprTree}
+use Rattle.bj_base.specs.declared.span.Span.{Span}
+use Rattle.bj_expr_tree.specs.declared.expr.ExprTree.{ExprTree}
 use Rattle.bj_tree.specs.declared.stmt.VariableTree.{VariableTree}
 use Rattle.bj_tree.specs.declared.stmt.StmtTree.{StmtTree}
 use Rattle.bj_tree.specs.declared.stmt.StmtTree.TheOpen.{StmtTree-F}

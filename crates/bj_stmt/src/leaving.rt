@@ -8,7 +8,7 @@ ghost use Rattle.bj_stmt.specs.Reading as spec;
 use crate::names::name_at;
 use crate::nodes::node;
 use crate::values::{maybe_value, value};
-use bj_core::Span;
+use bj_base::Span;
 use bj_expr::Bounds;
 use bj_grammar::{Stop, Symbol, Terminal, among, peek, place, sees, taken, word};
 use bj_tree::{NamedPlace, StmtTree};

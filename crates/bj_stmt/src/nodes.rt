@@ -3,7 +3,7 @@ ghost use Rattle.bj_grammar.specs.Given.{Gives};
 ghost use Rattle.bj_grammar.specs.Reader.{Found};
 ghost use Rattle.bj_tree.specs.declared.stmt.StmtTree.TheVariants as stmt;
 
-use bj_core::{NoMemory, Seq, Span};
+use bj_base::{NoMemory, Seq, Span};
 use bj_grammar::Stop;
 use bj_tree::{StmtTree, StmtTrees, TypeTree, TypeTrees, VariableTrees};
 use sqlite_items::{Boxed, Items};

@@ -4,7 +4,7 @@ ghost use Rattle.bj_stmt.specs.Reading as spec;
 
 use crate::names::maybe_final;
 use crate::nodes::node;
-use bj_core::{JText, Seq};
+use bj_base::{JText, Seq};
 use bj_expr::{Bounds, Part, dims, part_at, type_at};
 use bj_grammar::{Stop, Symbol, Terminal, out_of_turns, place, sees, units, word};
 use bj_tree::{ExprTree, StmtTree, VariableTree, VariableTrees};

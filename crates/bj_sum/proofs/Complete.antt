@@ -2,8 +2,8 @@
 use Rattle.std.proofs.Common.{◌≡◌, ℕ, suc, ◌+◌, ◌-◌, ◌<◌, ◌≤◌, max, Bool, cond, Option, Some, None, refl, sym, ap, ◌∙◌, arith, add-one}
 use Rattle.std.proofs.lemmas.Bool.{lt-ltb}
 use Rattle.bj_core.specs.declared.tree.Expr.{Expr}
-use Rattle.bj_core.specs.declared.tree.Op.{Op}
-use Rattle.bj_core.specs.declared.tree.Op.TheVariants as op
+use Rattle.bj_base.specs.declared.op.Op.{Op}
+use Rattle.bj_base.specs.declared.op.Op.TheVariants as op
 use Rattle.bj_sum.specs.declared.sum.Found.{Found}
 use Rattle.bj_sum.specs.declared.token.Sort.{Sort}
 use Rattle.bj_sum.specs.declared.token.Sort.TheVariants as sort

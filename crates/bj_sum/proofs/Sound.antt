@@ -2,8 +2,8 @@
 use Rattle.std.proofs.Common.{◌≡◌, ℕ, zero, suc, ◌<◌, ◌≤◌, max, nat_lt, ◌⊎◌, inl, inr, Bool, true, false, cond, Option, Some, None, refl, sym, ap, ◌∙◌, subst, arith}
 use Rattle.std.proofs.lemmas.Bool.{ltb-true}
 use Rattle.bj_core.specs.declared.tree.Expr.{Expr}
-use Rattle.bj_core.specs.declared.tree.Op.{Op}
-use Rattle.bj_core.specs.declared.tree.Op.TheVariants as op
+use Rattle.bj_base.specs.declared.op.Op.{Op}
+use Rattle.bj_base.specs.declared.op.Op.TheVariants as op
 use Rattle.bj_sum.specs.declared.sum.Found.{Found}
 use Rattle.bj_sum.specs.declared.token.Sort.{Sort}
 use Rattle.bj_sum.specs.declared.token.Sort.TheVariants as sort

@@ -2,9 +2,9 @@
 use Rattle.std.proofs.Common.{◌≡◌, ℕ, zero, suc, ◌+◌, ◌-◌, ◌<◌, ◌≤◌, max, List, length, ℤ, Option, Some, None, refl, sym, ap, ◌∙◌, add-one, arith}
 use Rattle.std.proofs.lemmas.List.{get_or_past}
 use Rattle.bj_core.specs.declared.tree.Expr.{Expr}
-use Rattle.bj_core.specs.declared.tree.Op.{Op}
+use Rattle.bj_base.specs.declared.op.Op.{Op}
 use Rattle.bj_core.specs.declared.types.Const.TheVariants as const
-use Rattle.bj_core.specs.declared.types.Span.{Span}
+use Rattle.bj_base.specs.declared.span.Span.{Span}
 use Rattle.bj_core.specs.declared.tree.Expr.TheVariants as e
 use Rattle.bj_sum.specs.declared.sum.Found.{Found}
 use Rattle.bj_sum.specs.declared.token.Sort.{Sort}

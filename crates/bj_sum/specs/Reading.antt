@@ -1,8 +1,8 @@
 -- The reader of sums, as a function on tokens. A limit says how high a tree may be.
 use Rattle.std.specs.Prelude.{ℕ, zero, suc, max, if◌then◌else◌, nat_lt, List, Option, Some, None, slice_index_or, ℤ}
 use Rattle.bj_core.specs.declared.tree.Expr.{Expr}
-use Rattle.bj_core.specs.declared.tree.Op.{Op}
-use Rattle.bj_core.specs.declared.tree.Op.TheVariants as op
+use Rattle.bj_base.specs.declared.op.Op.{Op}
+use Rattle.bj_base.specs.declared.op.Op.TheVariants as op
 use Rattle.bj_sum.specs.declared.sum.Found.{Found}
 use Rattle.bj_sum.specs.declared.token.Sort.{Sort}
 use Rattle.bj_sum.specs.declared.token.Sort.TheVariants as sort

@@ -2,10 +2,10 @@
 use Rattle.std.specs.Prelude.{◌≡◌, ℕ, ◌≤◌, ◌⊎◌, ℤ, List}
 use Rattle.bj_core.specs.declared.tree.Expr.{Expr}
 use Rattle.bj_core.specs.declared.tree.Expr.TheVariants as e
-use Rattle.bj_core.specs.declared.tree.Op.{Op}
-use Rattle.bj_core.specs.declared.tree.Op.TheVariants as op
+use Rattle.bj_base.specs.declared.op.Op.{Op}
+use Rattle.bj_base.specs.declared.op.Op.TheVariants as op
 use Rattle.bj_core.specs.declared.types.Const.TheVariants as const
-use Rattle.bj_core.specs.declared.types.Span.{Span}
+use Rattle.bj_base.specs.declared.span.Span.{Span}
 use Rattle.bj_sum.specs.declared.token.Sort.TheVariants as sort
 use Rattle.bj_sum.specs.declared.token.Token.{Token}
 use Rattle.bj_sum.specs.Lexical.{Tokens}

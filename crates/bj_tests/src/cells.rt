@@ -1,5 +1,6 @@
 use crate::sums::shown;
-use bj_core::{Expr, Name};
+use bj_base::Name;
+use bj_core::Expr;
 use bj_sum::{CellCall, MAX_TEXT, read_call, read_creation};
 use std::alloc::{AllocError, Global};
 use std::test::Fail;

@@ -1,4 +1,4 @@
-use bj_core::Seq;
+use bj_base::Seq;
 use bj_io::{Clock, MemClock, MemSink, MemSource, Poll, Put, Sink, Source};
 use std::test::*;
 

@@ -1,4 +1,4 @@
-//! The tests of crates at the bottom. They stand here because a crate with tests is proved twice, with and without them.
+//! The tests of crates at the bottom of the machine and of the session. They stand here because a crate with tests is proved twice, with and without them.
 #![tactic(auto)]
 
 #[cfg(test)]
@@ -12,18 +12,8 @@ mod ends;
 #[cfg(test)]
 mod heaps;
 #[cfg(test)]
-mod misfits;
-#[cfg(test)]
-mod operators;
-#[cfg(test)]
 mod stores;
 #[cfg(test)]
+mod streams;
+#[cfg(test)]
 mod sums;
-#[cfg(test)]
-mod texts;
-#[cfg(test)]
-mod tokens;
-#[cfg(test)]
-mod trees;
-#[cfg(test)]
-mod writers;

@@ -1,6 +1,6 @@
+use bj_base::{Name, NoMemory, Seq, Span};
 use bj_core::{
-    Access, Action, Answer, Class, Done, Field, HeapLimits, Limits, Name, NoMemory, Point, Program,
-    Seq, Span, Stmt, Ty, Val,
+    Access, Action, Answer, Class, Done, Field, HeapLimits, Limits, Point, Program, Stmt, Ty, Val,
 };
 use bj_store::{Block, Reaction, Store};
 use sqlite_items::Items;

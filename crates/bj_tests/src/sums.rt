@@ -1,4 +1,5 @@
-use bj_core::{Const, Expr, Op};
+use bj_base::Op;
+use bj_core::{Const, Expr};
 use bj_sum::{MAX_TEXT, read_sum};
 use std::alloc::{AllocError, Global};
 use std::test::Fail;

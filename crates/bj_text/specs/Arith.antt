@@ -1,8 +1,8 @@
 -- The arithmetic of `int` and `long`, at the width of the type. Values are mathematical integers.
 use Rattle.std.specs.Prelude.{ℕ, zero, suc, ◌*◌, ◌/◌, ◌%◌, ◌^◌, ℤ, pos, negsuc, ◌+ℤ◌, ◌-ℤ◌, ◌*ℤ◌, neg_ℤ, int_div, int_rem, Option, Some, None}
 use Rattle.std.specs.Int.{Width, w32, w64, int_wrap, int_bit_and, int_bit_or, int_bit_xor, int_shr, cast_unsigned, cast_signed}
-use Rattle.bj_core.specs.declared.tree.Op.{Op}
-use Rattle.bj_core.specs.declared.tree.Op.TheVariants.{Add, Sub, Mul, Div, Rem, Shl, Shr, Ushr, And, Or, Xor}
+use Rattle.bj_base.specs.declared.op.Op.{Op}
+use Rattle.bj_base.specs.declared.op.Op.TheVariants.{Add, Sub, Mul, Div, Rem, Shl, Shr, Ushr, And, Or, Xor}
 
 -- how many bits a value has
 abbrev pub bits_of : Width → ℕ

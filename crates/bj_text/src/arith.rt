@@ -4,7 +4,7 @@ ghost use Rattle.std.specs.Prelude.{◌≡◌, Some, None, MatchResult, pos, ◌
 ghost use Rattle.std.specs.Int.{w64};
 ghost use Rattle.bj_text.specs.Arith.{int_result, long_result, int_negated, distance};
 
-use bj_core::Op;
+use bj_base::Op;
 
 /// A division by zero, for which the machine throws ArithmeticException [JLS 15.17.2, 15.17.3].
 #[derive(Clone, Copy, Debug, PartialEq, Eq, Drop)]

@@ -3,7 +3,7 @@ ghost use Rattle.bj_text.specs.Escape.{escaped, escaped_unit, escaped_other, let
 ghost use Rattle.std.specs.Prelude.{◌<◌};
 ghost use Rattle.std.specs.Char.Utf16.{is_high_surrogate, is_low_surrogate};
 
-use bj_core::{JText, NoMemory, Seq};
+use bj_base::{JText, NoMemory, Seq};
 use std::alloc::Global;
 
 const BACKSLASH: u16 = 0x5C;

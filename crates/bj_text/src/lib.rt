@@ -8,7 +8,7 @@ mod unescaping;
 mod utf;
 
 pub use arith::{DivZero, int_negate, int_op, long_op};
-pub use bj_core::Op;
+pub use bj_base::Op;
 pub use escaping::{Quote, escape};
 pub use numeral::{decimal, parse_int};
 pub use unescaping::{EscapeFault, unescape};

@@ -2,7 +2,7 @@ ghost use Rattle.std.specs.Prelude.{◌≡◌, ◌≤◌, IfOk, option_map, neg_
 ghost use Rattle.std.specs.Fmt.{signed_decimal};
 ghost use Rattle.bj_text.specs.Numeral.{int_of, numeral_up_to};
 
-use bj_core::{JText, NoMemory, Seq};
+use bj_base::{JText, NoMemory, Seq};
 use itoa::Buffer;
 use std::alloc::Global;
 

@@ -1,7 +1,7 @@
 ghost use Rattle.std.specs.Prelude.{◌≡◌, ◌+◌, ◌≤◌, ◌<◌, IfOk, IfErr, IfSome, OnSome, IsTrue, length, Ok};
 ghost use Rattle.bj_text.specs.Unescape.{sequence_of, unit_for, octal_at, octal_sequence, unicode_sequence, four_hex, two_hex_at, hex_at, hex_of, is_octal, is_kept_out, unescaped, IsBadEscape};
 
-use bj_core::{JText, NoMemory, Seq};
+use bj_base::{JText, NoMemory, Seq};
 use std::alloc::Global;
 
 const BACKSLASH: u16 = 0x5C;

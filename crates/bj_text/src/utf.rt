@@ -3,7 +3,7 @@ ghost use Rattle.std.specs.Char.Escape.{encode_utf16};
 ghost use Rattle.std.specs.Char.Utf16.{utf16_chars};
 ghost use Rattle.bj_text.specs.Utf16.{units_of, bytes_of, IsFaultOf};
 
-use bj_core::{Bytes, JText, NoMemory, Seq};
+use bj_base::{Bytes, JText, NoMemory, Seq};
 use std::alloc::Global;
 
 /// Why bytes give no text.

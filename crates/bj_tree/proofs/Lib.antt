@@ -1,4 +1,1 @@
-pub mod ExprNodes
-pub mod Heights
 pub mod StmtNodes
-pub mod Sums

@@ -1,15 +1,16 @@
 -- The nodes of each form of statement.
 use Rattle.std.proofs.Common.{◌≡◌, ℕ, suc, ◌+◌, Bool, List, map, Option, option_map, unwrap_or, sym, ap, ◌∙◌}
-use Rattle.bj_core.specs.declared.types.Span.{Span}
-use Rattle.bj_tree.specs.declared.types.TypeTree.{TypeTree}
-use Rattle.bj_tree.specs.declared.types.NamedPlace.{NamedPlace}
-use Rattle.bj_tree.specs.declared.expr.ExprTree.{ExprTree}
+use Rattle.bj_base.specs.declared.span.Span.{Span}
+use Rattle.bj_expr_tree.specs.declared.types.TypeTree.{TypeTree}
+use Rattle.bj_expr_tree.specs.declared.types.NamedPlace.{NamedPlace}
+use Rattle.bj_expr_tree.specs.declared.expr.ExprTree.{ExprTree}
 use Rattle.bj_tree.specs.declared.stmt.VariableTree.{VariableTree}
 use Rattle.bj_tree.specs.declared.stmt.StmtTree.{StmtTree}
 use Rattle.bj_tree.specs.declared.stmt.StmtTree.TheVariants as stmt
 use Rattle.bj_tree.specs.declared.stmt.StmtTree.TheOpen.{StmtTree-F}
 use Rattle.bj_tree.specs.declared.stmt.StmtTree.TheFolds.{fold-roll-StmtTree}
-use Rattle.bj_tree.specs.Count.{total, nodes_of_expr, nodes_of_variable, stmt_form, nodes_of}
+use Rattle.bj_expr_tree.specs.Count.{total, nodes_of_expr}
+use Rattle.bj_tree.specs.Count.{nodes_of_variable, stmt_form, nodes_of}
 
 pub block_nodes : (at : Span) (body : List StmtTree) (end : Span) → nodes_of (stmt.Block at body end) ≡ suc (total (map nodes_of body))
 unfolding nodes_of

@@ -1,7 +1,8 @@
 ghost use Rattle.std.specs.Prelude.{◌≡◌, IfOk};
 
-use crate::{MemberTrees, NamedPlace, NamedPlaces};
-use bj_core::{Copies, Name, NoMemory, Seq, Span};
+use crate::MemberTrees;
+use bj_base::{Copies, Name, NoMemory, Seq, Span};
+use bj_expr_tree::{NamedPlace, NamedPlaces};
 use std::alloc::Global;
 
 /// The modifiers of classes, interfaces and members but `default` [JLS 8.1.1, 8.3.1, 8.4.3].

@@ -1,11 +1,11 @@
 ghost use Rattle.std.specs.Prelude.{◌≡◌, min, map};
 ghost use Rattle.bj_tree.specs.declared.stmt.StmtTree.{out-StmtTree};
-ghost use Rattle.bj_tree.specs.Count.{nodes_of, nodes_of_variable, total};
+ghost use Rattle.bj_expr_tree.specs.Count.{total};
+ghost use Rattle.bj_tree.specs.Count.{nodes_of, nodes_of_variable};
 ghost use Rattle.bj_tree.specs.Forms.{IsChoice, IsFor, IsTry};
 
-use crate::capped::{one_more, plus};
-use crate::expr_count::{all_expr_nodes, expr_nodes, optional_expr_nodes};
 use crate::{StmtTree, VariableTree};
+use bj_expr_tree::{all_expr_nodes, expr_nodes, one_more, optional_expr_nodes, plus};
 
 /// How many nodes a statement has, or 4294967295 where it has more. It takes no memory. The nodes are the statement itself,
 /// the statements, expressions and variables in it, the labels of a `switch` and the catches of a `try`.

@@ -1,7 +1,7 @@
-use crate::expr_copy::copy_boxed_expr;
+use crate::StmtTrees;
 use crate::stmt_copy::copy_stmts;
-use crate::{ExprTree, StmtTrees};
-use bj_core::{Copies, NoMemory};
+use bj_base::{Copies, NoMemory};
+use bj_expr_tree::{ExprTree, copy_boxed_expr};
 use sqlite_items::Boxed;
 use std::alloc::Global;
 

@@ -1,10 +1,9 @@
 ghost use Rattle.std.specs.Prelude.{◌≡◌, IfOk};
 
 use crate::stmt_copy::copy_boxed_stmt;
-use crate::{
-    AnnotationTrees, Modifiers, NamedPlace, NamedPlaces, StmtTree, TypeTree, VariableTrees,
-};
-use bj_core::{Copies, NoMemory, Seq, Span};
+use crate::{AnnotationTrees, Modifiers, StmtTree, VariableTrees};
+use bj_base::{Copies, NoMemory, Seq, Span};
+use bj_expr_tree::{NamedPlace, NamedPlaces, TypeTree};
 use sqlite_items::Boxed;
 use std::alloc::Global;
 

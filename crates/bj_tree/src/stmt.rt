@@ -1,6 +1,5 @@
-use crate::expr_copy::copy_optional_expr;
-use crate::{ExprTree, ExprTrees, NamedPlace, TypeTree, TypeTrees};
-use bj_core::{Copies, JText, NoMemory, Seq, Span};
+use bj_base::{Copies, JText, NoMemory, Seq, Span};
+use bj_expr_tree::{ExprTree, ExprTrees, NamedPlace, TypeTree, TypeTrees, copy_optional_expr};
 use sqlite_items::{Boxed, Items};
 use std::alloc::Global;
 

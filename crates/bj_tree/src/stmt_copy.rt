@@ -2,9 +2,9 @@ ghost use Rattle.std.specs.Prelude.{◌≡◌, IfOk};
 ghost use Rattle.bj_tree.specs.declared.stmt.StmtTree.{out-StmtTree};
 ghost use Rattle.bj_tree.specs.Forms.{IsPlain, IsChoice, IsFor, IsHeaded, IsJump, IsTry};
 
-use crate::expr_copy::{copy_boxed_expr, copy_exprs, copy_optional_expr};
 use crate::{StmtTree, StmtTrees};
-use bj_core::{Copies, NoMemory};
+use bj_base::{Copies, NoMemory};
+use bj_expr_tree::{copy_boxed_expr, copy_exprs, copy_optional_expr};
 use sqlite_items::{Boxed, Items};
 use std::alloc::Global;
 

@@ -1,7 +1,7 @@
 -- What pieces are written as is derived: it has their tokens.
 use Rattle.std.proofs.Common.{◌≡◌, ℕ, zero, suc, Bool, true, false, ◌&&◌, cond, List, [], ◌∷◌, ◌++◌, get_or, codes, refl, sym, ap, ◌∙◌, subst, Option, Some, None}
-use Rattle.bj_lex.specs.declared.token.TokenKind.{TokenKind}
-use Rattle.bj_lex.specs.declared.token.TokenKind.TheVariants.{Word, Keyword, Number, LongNumber, CharText, StringText, Sign}
+use Rattle.bj_token.specs.declared.token.TokenKind.{TokenKind}
+use Rattle.bj_token.specs.declared.token.TokenKind.TheVariants.{Word, Keyword, Number, LongNumber, CharText, StringText, Sign}
 use Rattle.bj_lex.specs.Characters.{passes, is_letter_char, begins_word, begins_part}
 use Rattle.bj_lex.specs.Numerals.{is_digit_in, number_kind}
 use Rattle.bj_lex.specs.Signs.{is_one_of, is_sign as is_sign_text}

@@ -2,11 +2,11 @@
 use Rattle.std.proofs.Common.{◌≡◌, ℕ, Bool, true, false, cond, ltb, length, List, [], ◌∷◌, refl, IsUtf8}
 use Rattle.std.specs.Str.{is_utf8}
 use Rattle.std.proofs.lemmas.Str.{IsUtf8-from_is_utf8}
-use Rattle.bj_lex.specs.declared.token.Token.{Token as Lexeme}
+use Rattle.bj_token.specs.declared.token.Token.{Token as Lexeme}
 use Rattle.bj_lex.specs.declared.place.Place.{Place}
 use Rattle.bj_lex.specs.Places.{start, place_after}
-use Rattle.bj_core.specs.declared.fault.FaultCode.{FaultCode}
-use Rattle.bj_core.specs.declared.fault.FaultCode.TheVariants.{Char}
+use Rattle.bj_base.specs.declared.fault.FaultCode.{FaultCode}
+use Rattle.bj_base.specs.declared.fault.FaultCode.TheVariants.{Char}
 use Rattle.bj_lex.specs.Texts.{Reading, Read, Stopped, read, read_bytes, text_of, front_of, before_bad_byte}
 use Rattle.bj_lex.specs.Grammar.{Spelled, spelled, Lexes}
 use Rattle.bj_lex.proofs.Sound.{sound}

@@ -5,8 +5,8 @@ use Rattle.std.specs.List.{list_all}
 use Rattle.std.specs.Char.Utf16.{surrogate_pair_char, lone_unit_char, is_high_surrogate, is_low_surrogate, utf16_chars}
 use Rattle.std.proofs.str.Utf16.{lone_unit_char_surrogate}
 use Rattle.bj_text.specs.Unescape.{unescaped}
-use Rattle.bj_lex.specs.declared.token.TokenKind.{TokenKind}
-use Rattle.bj_lex.specs.declared.token.TokenKind.TheVariants.{Word, Keyword, Number, LongNumber, CharText, StringText, Sign}
+use Rattle.bj_token.specs.declared.token.TokenKind.{TokenKind}
+use Rattle.bj_token.specs.declared.token.TokenKind.TheVariants.{Word, Keyword, Number, LongNumber, CharText, StringText, Sign}
 use Rattle.bj_lex.specs.declared.numbers.Numeral.TheVariants.{Value}
 use Rattle.bj_lex.specs.Characters.{is_pair, front_char, passes, is_part_char, is_letter_char, begins_word}
 use Rattle.bj_lex.specs.Numerals.{is_digit_in, is_long, is_float, numeral_of, number_kind}

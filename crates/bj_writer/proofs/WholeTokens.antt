@@ -5,7 +5,7 @@ use Rattle.std.specs.List.{list_all}
 use Rattle.std.specs.Char.Utf16.{surrogate_pair_char, lone_unit_char, utf16_chars}
 use Rattle.std.proofs.str.Utf16.{IsPair, lone_unit_char_surrogate}
 use Rattle.std.proofs.lemmas.Str.{utf16_chars_lone, utf16_chars_pair}
-use Rattle.bj_lex.specs.declared.token.TokenKind.{TokenKind}
+use Rattle.bj_token.specs.declared.token.TokenKind.{TokenKind}
 use Rattle.bj_lex.specs.Characters.{is_line_end, is_white, passes, is_part_char}
 use Rattle.bj_lex.specs.Grammar.{Spelled, IsAtLineEnd, IsParts, quote, Leads, here, white_space, end_of_line_comment, traditional_comment, identifier, keyword, integer, character, string, sign}
 use Rattle.bj_lex.proofs.Letters.{or_split}

@@ -1,6 +1,6 @@
 -- What pieces are written as, one at a time.
 use Rattle.std.proofs.Common.{◌≡◌, ℕ, zero, suc, List, [], ◌∷◌, ◌++◌, refl, sym, ap, ◌∙◌, append_assoc, append-nil, Option, Some, None, slice_index, length, ◌-◌, ◌+◌, arith}
-use Rattle.bj_lex.specs.declared.token.TokenKind.{TokenKind}
+use Rattle.bj_token.specs.declared.token.TokenKind.{TokenKind}
 use Rattle.bj_writer.specs.declared.writer.Last.{Last}
 use Rattle.bj_writer.specs.declared.writer.Writer.{Writer}
 use Rattle.bj_writer.specs.Pieces.{Piece, Mark, Space, Line, gap, last_of, spaces, written, last_after, Wrote}

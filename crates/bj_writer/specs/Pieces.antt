@@ -1,7 +1,7 @@
 -- Tokens and white space, and the text that they are written as [JLS 3.5, 3.6].
 use Rattle.std.specs.Prelude.{◌≡◌, ℕ, zero, suc, ◌-◌, Bool, true, false, ◌&&◌, ◌||◌, List, [], ◌∷◌, ◌++◌, Option, Some, None, length, codes, ◌==◌, if◌then◌else◌, slice_index}
-use Rattle.bj_lex.specs.declared.token.TokenKind.{TokenKind}
-use Rattle.bj_lex.specs.declared.token.TokenKind.TheVariants as kinds
+use Rattle.bj_token.specs.declared.token.TokenKind.{TokenKind}
+use Rattle.bj_token.specs.declared.token.TokenKind.TheVariants as kinds
 use Rattle.bj_lex.specs.Numerals.{is_digit_in}
 use Rattle.bj_lex.specs.Signs.{is_one_of, is_double}
 use Rattle.bj_lex.specs.Grammar.{Spelled}

@@ -1,8 +1,8 @@
 -- What is read of a text that was written.
 use Rattle.std.specs.Prelude.{◌≡◌, ℕ, List, [], ◌∷◌, ◌⊎◌}
-use Rattle.bj_core.specs.declared.types.Span.{Span}
+use Rattle.bj_base.specs.declared.span.Span.{Span}
 use Rattle.bj_text.specs.Utf16.{bytes_of}
-use Rattle.bj_lex.specs.declared.token.Token.{Token as Lexeme}
+use Rattle.bj_token.specs.declared.token.Token.{Token as Lexeme}
 use Rattle.bj_lex.specs.Texts.{ReadsAs}
 use Rattle.bj_lex.specs.Grammar.{Spelled, spelled}
 

@@ -3,7 +3,7 @@ ghost use Rattle.bj_lex.specs.Numerals.{is_digit_in};
 ghost use Rattle.bj_lex.specs.Signs.{is_one_of, is_double};
 ghost use Rattle.bj_writer.specs.Pieces.{Mark, Space, Line, Wrote, gap, joins, signs_join, is_run, is_number, is_sign, spaces};
 
-use bj_core::{JText, NoMemory, Seq};
+use bj_base::{JText, NoMemory, Seq};
 use bj_lex::TokenKind;
 use std::alloc::Global;
 

@@ -8,10 +8,10 @@ use Rattle.bj_history.specs.declared.opening.Opening.{Opening}
 use Rattle.bj_command.specs.Items.{items, IsPrefixOf}
 use Rattle.bj_machine.specs.Kept.{LogValue}
 use Rattle.bj_history.specs.History.{Legal, actions, after, lines, written}
-use Rattle.bj_session.specs.Reading.{is_too_long}
+use Rattle.bj_stream.specs.Reading.{is_too_long}
 use Rattle.bj_session.specs.Session.{IsOver, Holds}
-use Rattle.bj_session.specs.declared.sending.Sent.{Sent}
-use Rattle.bj_session.specs.declared.sending.Sent.TheVariants.{All, Failed, NoMemory}
+use Rattle.bj_stream.specs.declared.sending.Sent.{Sent}
+use Rattle.bj_stream.specs.declared.sending.Sent.TheVariants.{All, Failed, NoMemory}
 
 -- the words are `pad` alone
 abbrev pub is_pad : List (String Global) → Bool

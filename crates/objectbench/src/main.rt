@@ -15,10 +15,6 @@ use top::run_alone;
 #[cfg(test)]
 mod bench_tests;
 #[cfg(test)]
-mod machine_tests;
-#[cfg(test)]
-mod reply_tests;
-#[cfg(test)]
 mod test_ends;
 #[cfg(test)]
 mod tests;

@@ -8,7 +8,8 @@ use bj_core::{HeapLimits, Limits};
 use bj_history::{Opening, acts_are_within_the_limit};
 use bj_io::{Clock, Sink, Source};
 use bj_machine::{Loaded, Log};
-use bj_session::{Ending, Ends, Finish, Sent, Session, Turn, put_all};
+use bj_session::{Ending, Ends, Finish, Session, Turn};
+use bj_stream::{Sent, put_all};
 use std::alloc::Global;
 
 /// How the program is called.

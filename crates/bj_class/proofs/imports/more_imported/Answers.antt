@@ -1,6 +1,6 @@
 use Rattle.std.proofs.Common.{List, ◌∙◌, ◌+◌, ◌-◌, rules, sym, ap, arith}
 use Rattle.std.proofs.lemmas.Grind.{common_steps}
-use Rattle.bj_tree.specs.declared.types.NamedPlace.{NamedPlace}
+use Rattle.bj_expr_tree.specs.declared.types.NamedPlace.{NamedPlace}
 use Rattle.bj_grammar.specs.Given.{text_of, place_of}
 use Rattle.bj_class.specs.Reading.{more_names}
 use Rattle.bj_class.specs.Given.{over_most}

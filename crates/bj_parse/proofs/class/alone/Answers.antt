@@ -1,5 +1,5 @@
 use Rattle.std.proofs.Common.{◌<◌, ◌≤◌, List, length, subst}
-use Rattle.bj_lex.specs.declared.token.Token.{Token}
+use Rattle.bj_token.specs.declared.token.Token.{Token}
 use Rattle.bj_parse.proofs.ClassLaws as laws
 use Rattle.bj_parse.proofs.class.alone.Goals as goal
 

@@ -1,5 +1,5 @@
 use Rattle.std.proofs.Common.{[], sym, ap, ◌∙◌}
-use Rattle.bj_tree.specs.declared.types.TypeTree.{TypeTree}
+use Rattle.bj_expr_tree.specs.declared.types.TypeTree.{TypeTree}
 use Rattle.bj_grammar.specs.Given.{text_of}
 use Rattle.bj_grammar.specs.Reader.{Answer}
 use Rattle.bj_parse.specs.Early.{first_unfit, typed_places}

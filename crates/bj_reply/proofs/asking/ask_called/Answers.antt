@@ -1,6 +1,6 @@
 use Rattle.std.proofs.Common.{◌≡◌, ℕ, List, Some, sym, ap, ◌∙◌}
-use Rattle.bj_history.specs.declared.names.BoundName.{BoundName}
-use Rattle.bj_history.specs.Names.{value_in}
+use Rattle.bj_bench.specs.declared.names.BoundName.{BoundName}
+use Rattle.bj_bench.specs.Names.{value_in}
 use Rattle.bj_history.specs.Replies.{call_name, cell_in}
 use Rattle.bj_reply.proofs.Forms.{for_from, no_cell}
 use Rattle.bj_reply.proofs.Typings.{call_typed}

@@ -1,6 +1,6 @@
 use Rattle.std.proofs.Common.{sym, ap, ◌∙◌}
-use Rattle.bj_history.specs.declared.names.BoundName.{BoundName}
-use Rattle.bj_history.specs.Names.{is_taken}
+use Rattle.bj_bench.specs.declared.names.BoundName.{BoundName}
+use Rattle.bj_bench.specs.Names.{is_taken}
 use Rattle.std.specs.Prelude.{List}
 use Rattle.bj_reply.proofs.Forms.{for_from, for_known, when_busy, when_taken, when_untaken}
 use Rattle.bj_reply.proofs.asking.ask_creation.Goals as goal

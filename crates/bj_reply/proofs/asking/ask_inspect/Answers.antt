@@ -1,8 +1,8 @@
 use Rattle.std.proofs.Common.{◌≡◌, true, false, List, Option, None, sym, ap, ◌∙◌}
 use Rattle.bj_core.specs.declared.types.Val.{Val}
-use Rattle.bj_history.specs.declared.names.BoundName.{BoundName}
+use Rattle.bj_bench.specs.declared.names.BoundName.{BoundName}
 use Rattle.bj_history.specs.History.{loaded}
-use Rattle.bj_history.specs.Names.{is_plain, value_in}
+use Rattle.bj_bench.specs.Names.{is_plain, value_in}
 use Rattle.bj_history.specs.Replies.{inspected}
 use Rattle.bj_reply.proofs.Forms.{asked_from, for_from, inspect_found, inspect_plain, inspect_refused, plain_over}
 use Rattle.bj_reply.proofs.asking.ask_inspect.Goals as goal

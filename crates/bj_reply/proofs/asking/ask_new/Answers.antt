@@ -1,7 +1,7 @@
 use Rattle.std.proofs.Common.{◌≡◌, true, false, Option, ap, ◌∙◌}
 use Rattle.bj_core.specs.declared.tree.Expr.{Expr}
 use Rattle.bj_history.specs.History.{loaded}
-use Rattle.bj_history.specs.Names.{is_plain}
+use Rattle.bj_bench.specs.Names.{is_plain}
 use Rattle.bj_history.specs.Replies.{creation_outcome}
 use Rattle.bj_reply.proofs.Forms.{for_from, for_same, new_plain, new_refused, plain_over}
 use Rattle.bj_reply.proofs.Typings.{sum_if_any}

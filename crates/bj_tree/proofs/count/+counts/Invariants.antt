@@ -1,6 +1,7 @@
 use Rattle.std.proofs.Common.{◌≡◌, take, map}
 use Rattle.std.specs.Prelude.{min}
-use Rattle.bj_tree.specs.Count.{nodes_of, total}
+use Rattle.bj_expr_tree.specs.Count.{total}
+use Rattle.bj_tree.specs.Count.{nodes_of}
 use Rattle.bj_tree.proofs.count.+counts.Given as goal
 
 abbrev pub invariant-all_nodes-loop-tree : goal.invariant-all_nodes-loop-tree

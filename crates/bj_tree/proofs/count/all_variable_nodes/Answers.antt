@@ -1,4 +1,4 @@
-use Rattle.bj_tree.proofs.Sums.{total_step}
+use Rattle.bj_expr_tree.proofs.Sums.{total_step}
 use Rattle.bj_tree.specs.Count.{nodes_of_variable}
 use Rattle.bj_tree.proofs.count.all_variable_nodes.Goals as goal
 

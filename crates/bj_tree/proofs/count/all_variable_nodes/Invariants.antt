@@ -1,6 +1,7 @@
 use Rattle.std.proofs.Common.{◌≡◌, take, map}
 use Rattle.std.specs.Prelude.{min}
-use Rattle.bj_tree.specs.Count.{nodes_of_variable, total}
+use Rattle.bj_expr_tree.specs.Count.{total}
+use Rattle.bj_tree.specs.Count.{nodes_of_variable}
 use Rattle.bj_tree.proofs.count.all_variable_nodes.Given as goal
 
 abbrev pub invariant-loop-variable : goal.invariant-loop-variable

@@ -1,6 +1,6 @@
 use Rattle.std.proofs.Common.{List, [], ◌∷◌, ◌++◌, ◌∙◌, ◌+◌, ◌-◌, rules, sym, ap, arith}
 use Rattle.std.proofs.lemmas.Grind.{common_steps}
-use Rattle.bj_tree.specs.declared.expr.ExprTree.{ExprTree}
+use Rattle.bj_expr_tree.specs.declared.expr.ExprTree.{ExprTree}
 use Rattle.bj_grammar.specs.Given.{text_of, place_of}
 use Rattle.bj_expr.specs.Reading.{more_values, nested}
 use Rattle.bj_expr.specs.Given.{over_nested}

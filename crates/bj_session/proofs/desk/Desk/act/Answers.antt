@@ -2,7 +2,7 @@ use Rattle.std.proofs.Common.{refl, ap, ◌∙◌}
 use Rattle.bj_core.specs.declared.program.Program.{Program}
 use Rattle.bj_machine.specs.Kept.{LogValue}
 use Rattle.bj_machine.specs.Shown.{Shown}
-use Rattle.bj_reply.specs.Asking.{end_event}
+use Rattle.bj_say.specs.Events.{end_event}
 use Rattle.bj_session.proofs.Acting.{unacted_desk, acted_desk, kept_moved}
 use Rattle.bj_session.proofs.desk.Desk.act.Goals as goal
 

@@ -5,7 +5,7 @@ use Rattle.bj_machine.specs.Shown.{Shown}
 use Rattle.bj_reply.specs.Asking.{IsAsked}
 use Rattle.bj_reply.specs.declared.asking.Asked.{Asked}
 use Rattle.bj_session.specs.Desk.{Desk, HasLined, MayTake}
-use Rattle.bj_session.specs.declared.sending.Sent.TheVariants.{NoMemory}
+use Rattle.bj_stream.specs.declared.sending.Sent.TheVariants.{NoMemory}
 use Rattle.bj_session.proofs.Notes.{unnoted, noted}
 use Rattle.bj_session.proofs.Lining.{asked_for, may_begin, log_entered, kept_lined}
 use Rattle.bj_session.proofs.desk.Desk.line.Goals as goal

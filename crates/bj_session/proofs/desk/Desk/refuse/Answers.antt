@@ -3,7 +3,7 @@ use Rattle.bj_command.specs.Words.{form_in, takes_memory}
 use Rattle.bj_history.specs.Replies.{no_memory}
 use Rattle.bj_machine.specs.Shown.{Shown}
 use Rattle.bj_session.specs.Desk.{Desk, HasLined}
-use Rattle.bj_session.specs.declared.sending.Sent.TheVariants.{NoMemory}
+use Rattle.bj_stream.specs.declared.sending.Sent.TheVariants.{NoMemory}
 use Rattle.bj_session.proofs.Notes.{unnoted}
 use Rattle.bj_session.proofs.desk.Desk.refuse.Goals as goal
 

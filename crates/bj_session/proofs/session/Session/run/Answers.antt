@@ -1,5 +1,5 @@
 use Rattle.std.proofs.Common.{◌≡◌, ◌<◌, Option, None, ap, sym, ◌∙◌, subst, arith}
-use Rattle.bj_session.specs.Reading.{Reader}
+use Rattle.bj_stream.specs.Reading.{Reader}
 use Rattle.bj_session.specs.Desk.{Desk}
 use Rattle.bj_session.specs.Session.{Session, Goes, todo}
 use Rattle.bj_session.specs.declared.ends.Ending.{Ending}

@@ -1,6 +1,6 @@
 use Rattle.std.proofs.Common.{[], ◌∷◌, ◌∙◌, rules, ap, arith}
 use Rattle.std.proofs.lemmas.Grind.{common_steps}
-use Rattle.bj_core.specs.declared.types.Span.{Span}
+use Rattle.bj_base.specs.declared.span.Span.{Span}
 use Rattle.bj_tree.specs.declared.stmt.StmtTree.TheVariants as stmt
 use Rattle.bj_grammar.specs.Given.{text_of, place_of}
 use Rattle.bj_stmt.specs.Reading.{nested}

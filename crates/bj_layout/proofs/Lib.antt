@@ -1,0 +1,4 @@
+pub mod Writing
+pub mod ExprPieces
+pub mod StmtParts
+pub mod ClassPieces

@@ -1,0 +1,5 @@
+use Rattle.bj_layout.proofs.Writing.{then_wrote}
+use Rattle.bj_layout.proofs.heads.write_class_head.Goals as goal
+
+pub returns : goal.returns
+returns c = then_wrote c.in_ok-open_head.ensures (then_wrote c.in_ok-word.ensures (then_wrote c.in_ok-sign.ensures (then_wrote c.in_ok-keyword.ensures c.in_ok-sign-2.ensures)))

@@ -1,0 +1,12 @@
+use Rattle.std.proofs.Common.{[]}
+use Rattle.bj_layout.specs.Classes.{annotation_pieces}
+use Rattle.bj_layout.proofs.Writing.{nothing_wrote, item_at, wrote_behind}
+use Rattle.bj_layout.proofs.modifiers.write_annotations.Goals as goal
+
+pub loop-tree-init : goal.loop-tree-init
+loop-tree-init c = nothing_wrote
+
+pub loop-tree-preserved : goal.loop-tree-preserved
+loop-tree-preserved c =
+    wrote_behind [] (annotation_pieces c.args.columns) c.args.trees.now c.loop-tree.tree-index c.tree-item.result (item_at c.as_slice-tree-items.ensures c.loop-tree-test.true c.tree-item.is) c.loop-tree.invariant
+    c.in_ok-write_annotation.ensures

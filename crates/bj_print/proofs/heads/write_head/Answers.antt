@@ -1,5 +1,0 @@
-use Rattle.bj_print.proofs.Writing.{then_wrote}
-use Rattle.bj_print.proofs.heads.write_head.Goals as goal
-
-pub returns : goal.returns
-returns c = then_wrote c.in_ok-open_head.ensures (then_wrote c.in_ok-write_boxed.ensures c.in_ok-sign.ensures)

@@ -1,8 +1,0 @@
-use Rattle.std.proofs.Common.{take, map}
-use Rattle.bj_writer.specs.Pieces.{Wrote}
-use Rattle.bj_print.specs.Exprs.{separated, type_pieces}
-use Rattle.bj_print.specs.Parts.{bar}
-use Rattle.bj_print.proofs.heads.write_types.Given as goal
-
-abbrev pub invariant-loop-index : goal.invariant-loop-index
-invariant-loop-index l = Wrote l.fn.out l.out (separated bar (map type_pieces (take l.index l.types)))

@@ -1,5 +1,0 @@
-use Rattle.bj_print.proofs.Writing.{then_wrote}
-use Rattle.bj_print.proofs.member.write_method.Goals as goal
-
-pub returns : goal.returns
-returns c = then_wrote c.in_ok-write_prefix.ensures (then_wrote c.in_ok-write_default.ensures (then_wrote c.in_ok-write_result.ensures (then_wrote c.in_ok-space.ensures (then_wrote c.in_ok-word.ensures (then_wrote c.in_ok-write_formals.ensures (then_wrote c.in_ok-write_names.ensures c.in_ok-write_optional_block.ensures))))))

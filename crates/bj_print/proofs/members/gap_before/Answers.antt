@@ -1,6 +1,0 @@
-use Rattle.bj_print.proofs.Writing.{nothing_next}
-use Rattle.bj_print.specs.Parts.{gap_between}
-use Rattle.bj_print.proofs.members.gap_before.Goals as goal
-
-pub returns-then-index-eq0 : goal.returns-then-index-eq0
-returns-then-index-eq0 c = nothing_next (gap_between c.args.is_behind_field c.args.is_field) c.args.index c.if-index-eq0.true

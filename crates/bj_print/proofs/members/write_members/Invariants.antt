@@ -1,8 +1,0 @@
-use Rattle.std.proofs.Common.{◌≡◌, take, false}
-use Rattle.bj_writer.specs.Pieces.{Wrote}
-use Rattle.bj_print.specs.Classes.{members_pieces}
-use Rattle.bj_print.proofs.ClassPieces.{ends_with_field}
-use Rattle.bj_print.proofs.members.write_members.Given as goal
-
-abbrev pub invariant-loop-index : goal.invariant-loop-index
-invariant-loop-index l = Wrote l.fn.out l.out (members_pieces (take l.index l.trees)) × (l.is_behind_field ≡ ends_with_field false (take l.index l.trees))

@@ -1,5 +1,0 @@
-use Rattle.bj_print.proofs.Writing.{then_wrote}
-use Rattle.bj_print.proofs.modifiers.write_prefix.Goals as goal
-
-pub returns : goal.returns
-returns c = then_wrote c.in_ok-write_annotations.ensures c.in_ok-write_modifiers.ensures

@@ -1,6 +1,0 @@
-use Rattle.bj_print.specs.Parts.{point}
-use Rattle.bj_print.proofs.Writing.{nothing_next}
-use Rattle.bj_print.proofs.names.point_before.Goals as goal
-
-pub returns-then-index-eq0 : goal.returns-then-index-eq0
-returns-then-index-eq0 c = nothing_next point c.args.index c.if-index-eq0.true

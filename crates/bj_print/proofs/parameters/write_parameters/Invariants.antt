@@ -1,8 +1,0 @@
-use Rattle.std.proofs.Common.{take, map}
-use Rattle.bj_writer.specs.Pieces.{Wrote}
-use Rattle.bj_print.specs.Exprs.{with_commas}
-use Rattle.bj_print.specs.Classes.{parameter_pieces}
-use Rattle.bj_print.proofs.parameters.write_parameters.Given as goal
-
-abbrev pub invariant-loop-index : goal.invariant-loop-index
-invariant-loop-index l = Wrote l.fn.out l.out (with_commas (map parameter_pieces (take l.index l.trees)))

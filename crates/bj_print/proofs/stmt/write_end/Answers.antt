@@ -1,5 +1,0 @@
-use Rattle.bj_print.proofs.StmtParts.{wrote_no_semicolon}
-use Rattle.bj_print.proofs.stmt.write_end.Goals as goal
-
-pub returns-else-ends_with_semicolon : goal.returns-else-ends_with_semicolon
-returns-else-ends_with_semicolon c = wrote_no_semicolon c.ends_with_semicolon.ensures c.if-ends_with_semicolon.false

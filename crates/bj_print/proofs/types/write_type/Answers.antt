@@ -1,5 +1,0 @@
-use Rattle.bj_print.proofs.Writing.{then_wrote}
-use Rattle.bj_print.proofs.types.write_type.Goals as goal
-
-pub returns : goal.returns
-returns c = then_wrote c.in_ok-write_type_name.ensures c.in_ok-write_pairs.ensures

@@ -1,8 +1,0 @@
-use Rattle.std.proofs.Common.{take, map}
-use Rattle.bj_writer.specs.Pieces.{Wrote}
-use Rattle.bj_print.specs.Exprs.{with_commas}
-use Rattle.bj_print.specs.Stmts.{variable_pieces}
-use Rattle.bj_print.proofs.variables.write_variables.Given as goal
-
-abbrev pub invariant-loop-index : goal.invariant-loop-index
-invariant-loop-index l = Wrote l.fn.out l.out (with_commas (map variable_pieces (take l.index l.variables)))
