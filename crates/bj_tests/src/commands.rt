@@ -4,153 +4,187 @@ use bj_command::{
 use std::alloc::Global;
 use std::test::*;
 
-/// The answer is a blank line.
-fn is_blank(read: Result<Command, LineFault>) -> bool {
-    matches!(read, Ok(Command::Blank))
+/// What a line is read as.
+#[derive(Clone, Copy)]
+enum Wanted {
+    /// A line without a word.
+    Blank,
+    /// `quit`
+    Quit,
+    /// `wait`
+    Wait,
+    /// A form that is not built.
+    Unbuilt,
+    /// `pad` with this text.
+    Pad(&'static [u8]),
+    /// `new` with this name and this text.
+    New(&'static [u8], &'static [u8]),
+    /// `call` with this text.
+    Call(&'static [u8]),
+    /// `inspect` with this name.
+    Inspect(&'static [u8]),
+    /// A bad line, with the place that it is told at.
+    Bad(usize),
 }
 
-/// The answer is `quit`.
-fn is_end(read: Result<Command, LineFault>) -> bool {
-    matches!(read, Ok(Command::Quit))
-}
-
-/// The answer is `wait`.
-fn is_wait(read: Result<Command, LineFault>) -> bool {
-    matches!(read, Ok(Command::Wait))
-}
-
-/// The answer is a form that is not built.
-fn is_unbuilt(read: Result<Command, LineFault>) -> bool {
-    matches!(read, Ok(Command::Unbuilt))
-}
-
-/// The answer is `pad` with this text.
-fn is_pad(read: Result<Command, LineFault>, wanted: &[u8]) -> bool {
-    match &read {
-        Ok(Command::Pad { text }) => text.as_slice() == wanted,
-        _ => false,
+/// Whether a command is this one.
+fn is_command(command: &Command, wanted: Wanted) -> bool {
+    match command {
+        Command::Blank => matches!(wanted, Wanted::Blank),
+        Command::Quit => matches!(wanted, Wanted::Quit),
+        Command::Wait => matches!(wanted, Wanted::Wait),
+        Command::Unbuilt => matches!(wanted, Wanted::Unbuilt),
+        Command::Pad { text } => matches!(wanted, Wanted::Pad(of) if text.as_slice() == of),
+        Command::Call { text } => matches!(wanted, Wanted::Call(of) if text.as_slice() == of),
+        Command::Inspect { name } => {
+            matches!(wanted, Wanted::Inspect(of) if name.as_slice() == of)
+        }
+        Command::New { name, text } => {
+            matches!(wanted, Wanted::New(of, with) if name.as_slice() == of && text.as_slice() == with)
+        }
     }
 }
 
-/// The answer is `new` with this name and text.
-fn is_new(read: Result<Command, LineFault>, wanted: (&[u8], &[u8])) -> bool {
-    match &read {
-        Ok(Command::New { name, text }) => name.as_slice() == wanted.0
-            && text.as_slice() == wanted.1,
-        _ => false,
-    }
-}
-
-/// The answer is `call` with this text.
-fn is_call(read: Result<Command, LineFault>, wanted: &[u8]) -> bool {
-    match &read {
-        Ok(Command::Call { text }) => text.as_slice() == wanted,
-        _ => false,
-    }
-}
-
-/// The answer is `inspect` with this name.
-fn is_inspect(read: Result<Command, LineFault>, wanted: &[u8]) -> bool {
-    match &read {
-        Ok(Command::Inspect { name }) => name.as_slice() == wanted,
-        _ => false,
-    }
-}
-
-#[test]
-fn each_form_is_read(rt: HostRuntime) {
-    let alloc = rt.alloc();
-    assert!(&rt; is_blank(read_line(alloc, b"")));
-    assert!(&rt; is_blank(read_line(alloc, b"   ")));
-    assert!(&rt; is_end(read_line(alloc, b"quit")));
-    assert!(&rt; is_end(read_line(alloc, b"  quit ")));
-    assert!(&rt; is_quit(b" quit"));
-    assert!(&rt; !is_quit(b"quit x") && !is_quit(b"") && !is_quit(b"pad quit"));
-    assert!(&rt; is_pad(read_line(alloc, b" pad  1 + 2 "), b"1 + 2 "));
-}
-
-#[test]
-fn a_name_and_a_text_are_given(rt: HostRuntime) {
-    let alloc = rt.alloc();
-    assert!(&rt; is_new(read_line(alloc, b"new x Cell(5)"), (b"x", b"Cell(5)")));
-    assert!(&rt;
-        is_new(
-            read_line(alloc, b"  new  cell  Cell( 5 ) "),
-            (b"cell", b"Cell( 5 ) ")
-        )
-    );
-    assert!(&rt; is_call(read_line(alloc, b"call  c.get() "), b"c.get() "));
-    assert!(&rt; is_inspect(read_line(alloc, b"inspect c"), b"c"));
-    assert!(&rt; is_inspect(read_line(alloc, b" inspect  cell "), b"cell"));
-}
-
-#[test]
-fn wait_stands_alone(rt: HostRuntime) {
-    let alloc = rt.alloc();
-    assert!(&rt; is_wait(read_line(alloc, b"wait")));
-    assert!(&rt; is_wait(read_line(alloc, b"  wait ")));
-    assert!(&rt; is_unbuilt(read_line(alloc, b"wait 5")));
-    assert!(&rt; is_unbuilt(read_line(alloc, b"wait jobs")));
-}
-
-#[test]
-fn pad_reads_its_own_words(rt: HostRuntime) {
-    let alloc = rt.alloc();
-    assert!(&rt; is_blank(read_pad_line(alloc, b"")));
-    assert!(&rt; is_blank(read_pad_line(alloc, b"  ")));
-    assert!(&rt; is_end(read_pad_line(alloc, b"quit")));
-    assert!(&rt; is_pad(read_pad_line(alloc, b"pad 1 + 2"), b"1 + 2"));
-    let lines: [(&[u8], usize); 7] = [
-        (b"inspect", 1),
-        (b"  inspect", 3),
-        (b"new x Cell(5)", 1),
-        (b"call c.get()", 1),
-        (b"wait", 1),
-        (b"pad", 4),
-        (b"quit now", 6),
-    ];
-    for (line, at) in lines {
-        assert_eq!(&rt; place_of(read_pad_line(alloc, line)), at);
-    }
-}
-
-/// The place of a fault, or 0.
-fn place_of(read: Result<Command, LineFault>) -> usize {
+/// Whether a line was read as this.
+fn is_read_so(read: &Result<Command, LineFault>, wanted: Wanted) -> bool {
     match read {
-        Err(LineFault::BadLine { at }) => at,
-        _ => 0,
+        Ok(command) => is_command(command, wanted),
+        Err(LineFault::BadLine { at }) => matches!(wanted, Wanted::Bad(place) if *at == place),
+        Err(LineFault::NoMemory) => false,
     }
 }
 
-#[test]
-fn a_bad_line_is_told_at_its_place(rt: HostRuntime) -> Result<(), Fail> {
-    let alloc = rt.alloc();
-    let lines: [(&[u8], usize); 16] = [
-        (b"flub", 1),
-        (b"  flub", 3),
-        (b"pad", 4),
-        (b"pad  ", 6),
-        (b"padx 1", 1),
-        (b"quit now", 6),
-        (b"\x61\xff", 2),
-        (b"pad \xe2\x82", 5),
-        (b"Quit", 1),
-        (b"new", 4),
-        (b"new x", 6),
-        (b" new x ", 8),
-        (b"call", 5),
-        (b"inspect", 8),
-        (b"inspect c d", 11),
-        (b"  waits", 3),
-    ];
-    for (line, at) in lines {
-        assert_eq!(&rt; place_of(read_line(alloc, line)), at);
+/// Lets go what a line was read as. Its drop stands here alone.
+fn dismiss(_read: Result<Command, LineFault>) {}
+
+/// Lines of a bench with what each is read as.
+const LINES: [(&[u8], Wanted); 30] = [
+    (b"", Wanted::Blank),
+    (b"   ", Wanted::Blank),
+    (b"quit", Wanted::Quit),
+    (b"  quit ", Wanted::Quit),
+    (b" pad  1 + 2 ", Wanted::Pad(b"1 + 2 ")),
+    (b"new x Cell(5)", Wanted::New(b"x", b"Cell(5)")),
+    (
+        b"  new  cell  Cell( 5 ) ",
+        Wanted::New(b"cell", b"Cell( 5 ) "),
+    ),
+    (b"call  c.get() ", Wanted::Call(b"c.get() ")),
+    (b"inspect c", Wanted::Inspect(b"c")),
+    (b" inspect  cell ", Wanted::Inspect(b"cell")),
+    (b"wait", Wanted::Wait),
+    (b"  wait ", Wanted::Wait),
+    (b"wait 5", Wanted::Unbuilt),
+    (b"wait jobs", Wanted::Unbuilt),
+    (b"flub", Wanted::Bad(1)),
+    (b"  flub", Wanted::Bad(3)),
+    (b"pad", Wanted::Bad(4)),
+    (b"pad  ", Wanted::Bad(6)),
+    (b"padx 1", Wanted::Bad(1)),
+    (b"quit now", Wanted::Bad(6)),
+    (b"\x61\xff", Wanted::Bad(2)),
+    (b"pad \xe2\x82", Wanted::Bad(5)),
+    (b"Quit", Wanted::Bad(1)),
+    (b"new", Wanted::Bad(4)),
+    (b"new x", Wanted::Bad(6)),
+    (b" new x ", Wanted::Bad(8)),
+    (b"call", Wanted::Bad(5)),
+    (b"inspect", Wanted::Bad(8)),
+    (b"inspect c d", Wanted::Bad(11)),
+    (b"  waits", Wanted::Bad(3)),
+];
+
+/// The first of those lines that is read otherwise, counted from 0.
+fn first_misread(alloc: Global) -> Option<usize> {
+    for (row, (line, wanted)) in LINES.iter().enumerate() {
+        let read = read_line(alloc, line);
+        let is_so = is_read_so(&read, *wanted);
+        dismiss(read);
+        if !is_so {
+            return Some(row);
+        }
     }
-    let long = vec![in alloc; b'x'; 65_537]?;
-    assert_eq!(&rt; place_of(read_line(alloc, long.as_slice())), 65_537);
-    let longest = vec![in alloc; b'x'; 65_536]?;
-    assert_eq!(&rt; place_of(read_line(alloc, longest.as_slice())), 1);
-    Ok(())
+    None
+}
+
+#[test]
+fn lines_of_a_bench_are_read_or_bad_at_a_place(rt: HostRuntime) {
+    assert_eq!(&rt; first_misread(rt.alloc()), None);
+}
+
+/// Lines of a codepad, which reads its own words, with what each is read as.
+const PAD_LINES: [(&[u8], Wanted); 11] = [
+    (b"", Wanted::Blank),
+    (b"  ", Wanted::Blank),
+    (b"quit", Wanted::Quit),
+    (b"pad 1 + 2", Wanted::Pad(b"1 + 2")),
+    (b"inspect", Wanted::Bad(1)),
+    (b"  inspect", Wanted::Bad(3)),
+    (b"new x Cell(5)", Wanted::Bad(1)),
+    (b"call c.get()", Wanted::Bad(1)),
+    (b"wait", Wanted::Bad(1)),
+    (b"pad", Wanted::Bad(4)),
+    (b"quit now", Wanted::Bad(6)),
+];
+
+/// The first of those lines that is read otherwise, counted from 0.
+fn first_misread_in_pad(alloc: Global) -> Option<usize> {
+    for (row, (line, wanted)) in PAD_LINES.iter().enumerate() {
+        let read = read_pad_line(alloc, line);
+        let is_so = is_read_so(&read, *wanted);
+        dismiss(read);
+        if !is_so {
+            return Some(row);
+        }
+    }
+    None
+}
+
+#[test]
+fn lines_of_a_codepad_are_read_or_bad_at_a_place(rt: HostRuntime) {
+    assert_eq!(&rt; first_misread_in_pad(rt.alloc()), None);
+}
+
+/// Whether a line of so many `x` is bad at this place.
+fn is_long_line_bad_at(alloc: Global, many: usize, at: usize) -> bool {
+    let Ok(line) = vec![in alloc; b'x'; many] else {
+        return false;
+    };
+    let read = read_line(alloc, line.as_slice());
+    let is_so = is_read_so(&read, Wanted::Bad(at));
+    dismiss(read);
+    is_so
+}
+
+#[test]
+fn a_line_past_65536_bytes_is_bad_behind_them(rt: HostRuntime) {
+    assert!(&rt; is_long_line_bad_at(rt.alloc(), 65_537, 65_537));
+    assert!(&rt; is_long_line_bad_at(rt.alloc(), 65_536, 1));
+}
+
+/// Lines with whether each is `quit`.
+const QUITS: [(&[u8], bool); 4] = [
+    (b" quit", true),
+    (b"quit x", false),
+    (b"", false),
+    (b"pad quit", false),
+];
+
+#[test]
+fn quit_stands_alone(rt: HostRuntime) {
+    for (line, wanted) in QUITS.iter() {
+        assert!(&rt; is_quit(line) == *wanted);
+    }
+}
+
+/// Lines with what is left of each without a CR at its end.
+const WITHOUT_CR: [(&[u8], &[u8]); 3] = [(b"ab\r", b"ab"), (b"ab\r\r", b"ab\r"), (b"", b"")];
+
+#[test]
+fn a_cr_at_the_end_of_a_line_is_dropped(rt: HostRuntime) {
+    for (line, wanted) in WITHOUT_CR.iter() {
+        assert!(&rt; drop_cr(line) == *wanted);
+    }
 }
 
 #[test]
@@ -158,9 +192,6 @@ fn lines_are_cut_at_lf(rt: HostRuntime) {
     assert!(&rt; line_end(b"ab\ncd", 0) == Some(2));
     assert!(&rt; line_end(b"ab\ncd", 2) == Some(2));
     assert!(&rt; line_end(b"abcd", 1).is_none());
-    assert!(&rt; drop_cr(b"ab\r") == b"ab".as_slice());
-    assert!(&rt; drop_cr(b"ab\r\r") == b"ab\r".as_slice());
-    assert!(&rt; drop_cr(b"") == b"".as_slice());
 }
 
 #[test]
@@ -170,8 +201,7 @@ fn lines_are_counted_over_pieces(rt: HostRuntime) {
         first: true,
     };
     let some = count_lines(none, b"ab\nc");
-    assert_eq!(&rt; some.begun, 2);
     let more = count_lines(some, b"d\n\n");
-    assert_eq!(&rt; more.begun, 3);
-    assert_eq!(&rt; count_lines(more, b"e").begun, 4);
+    let all = count_lines(more, b"e");
+    assert!(&rt; some.begun == 2 && more.begun == 3 && all.begun == 4);
 }

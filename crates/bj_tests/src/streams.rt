@@ -1,22 +1,44 @@
-use bj_base::{Bytes, Seq};
+use bj_base::Seq;
 use bj_io::{MemSink, MemSource, Sink};
 use bj_stream::{Polled, Reader, Sent, Taken, put_all};
 use std::test::*;
 
-/// The bytes of a line that was taken, and no line's where none was.
-fn line(taken: Taken) -> Option<Bytes> {
+/// Whether what was taken is this line.
+fn is_line(taken: &Taken, text: &[u8]) -> bool {
     match taken {
-        Taken::Line(bytes) => Some(bytes),
-        _ => None,
+        Taken::Line(bytes) => bytes.as_slice() == text,
+        _ => false,
     }
 }
 
-/// Whether what was taken is this line.
-fn is_line(taken: Taken, text: &[u8]) -> bool {
-    match line(taken) {
-        Some(bytes) => bytes.as_slice() == text,
-        None => false,
-    }
+/// Lets go what was taken. Its drop stands here alone.
+fn dismiss(_taken: Taken) {}
+
+/// Whether the next line that a reader gives is this one.
+fn takes(reader: &mut Reader<MemSource>, text: &[u8]) -> bool {
+    let taken = reader.take_line();
+    let found = is_line(&taken, text);
+    dismiss(taken);
+    found
+}
+
+/// Whether a reader of `a`, `bc` and `d`, of which the last has no end, gives the two lines that have one.
+fn gives_whole_lines(reader: &mut Reader<MemSource>) -> bool {
+    reader.is_done()
+        && reader.poll() == Polled::Got
+        && !reader.is_too_long()
+        && takes(reader, b"a")
+        && takes(reader, b"bc")
+        && !takes(reader, b"d")
+}
+
+/// Whether it then gives the last line, once its source has ended.
+fn gives_the_last_line(reader: &mut Reader<MemSource>) -> bool {
+    reader.poll() == Polled::End
+        && reader.has_ended()
+        && !reader.is_over()
+        && takes(reader, b"d")
+        && reader.is_over()
 }
 
 #[test]
@@ -25,17 +47,8 @@ fn lines_are_cut_from_pieces(rt: HostRuntime) -> Result<(), Fail> {
     let bytes = Seq::from_vec(Vec::from_slice(alloc, b"a\r\nbc\nd".as_slice())?);
     let source = MemSource::new(bytes, Seq::new(alloc), Seq::new(alloc));
     let mut reader = Reader::new(alloc, source);
-    assert!(&rt; reader.is_done());
-    assert!(&rt; reader.poll() == Polled::Got);
-    assert!(&rt; !reader.is_too_long());
-    assert!(&rt; is_line(reader.take_line(), b"a"));
-    assert!(&rt; is_line(reader.take_line(), b"bc"));
-    assert!(&rt; !is_line(reader.take_line(), b"d"));
-    assert!(&rt; reader.poll() == Polled::End);
-    assert!(&rt; reader.has_ended());
-    assert!(&rt; !reader.is_over());
-    assert!(&rt; is_line(reader.take_line(), b"d"));
-    assert!(&rt; reader.is_over());
+    let found = gives_whole_lines(&mut reader) && gives_the_last_line(&mut reader);
+    assert!(&rt; found);
     Ok(())
 }
 

@@ -1,7 +1,8 @@
-use bj_base::{Fault, FaultCode, Name, Refusal};
+use bj_base::{Fault, FaultCode, JText, Name, NoMemory, Refusal};
 use bj_lex::{Numeral, char_value, numeral_of, text_value, tokens};
 use bj_text::{from_utf8, to_utf8};
 use bj_token::{Token, TokenKind, Tokens};
+use std::alloc::Global;
 use std::test::Fail;
 
 const FAULT: &str = "an answer that the table does not have";
@@ -339,28 +340,39 @@ fn a_character_that_begins_no_token_is_a_fault(rt: HostRuntime) -> Result<(), Fa
     compare(&rt, &NO_TOKENS)
 }
 
-/// The code of the first fault of a text.
-fn code_of(rt: &HostRuntime, bytes: &[u8]) -> Option<FaultCode> {
-    if bytes.len() >= 1000 {
-        return None;
-    }
-    let class = Name::from_slice(rt.alloc(), b"Example").ok()?;
-    match tokens(rt.alloc(), &class, bytes) {
-        Err(Refusal::Fault(fault)) => Some(fault.code),
-        _ => None,
+/// What a word alone is read as.
+#[derive(Clone, Copy, PartialEq, Eq)]
+enum WordKind {
+    /// A keyword or a literal by a word.
+    Keyword,
+    /// A fault, since the profile leaves it out.
+    LeftOut,
+    /// Anything else.
+    Other,
+}
+
+/// What a text was read as, by its first token or its fault.
+fn kind_found(found: &Result<Tokens, Refusal>) -> WordKind {
+    match found {
+        Ok(tokens) => match tokens.items.get(0) {
+            Some(token) if token.kind == TokenKind::Keyword => WordKind::Keyword,
+            _ => WordKind::Other,
+        },
+        Err(Refusal::Fault(fault)) if fault.code == FaultCode::Profile => WordKind::LeftOut,
+        Err(_) => WordKind::Other,
     }
 }
 
-/// The kind of the first token of a text.
-fn kind_of(rt: &HostRuntime, bytes: &[u8]) -> Option<TokenKind> {
-    if bytes.len() >= 1000 {
-        return None;
+/// What a word is read as.
+fn kind_of(alloc: Global, word: &str) -> WordKind {
+    if word.len() >= 1000 {
+        return WordKind::Other;
     }
-    let class = Name::from_slice(rt.alloc(), b"Example").ok()?;
-    match tokens(rt.alloc(), &class, bytes) {
-        Ok(tokens) => Some(tokens.items.get(0)?.kind),
-        Err(_) => None,
-    }
+    let Ok(class) = Name::from_slice(alloc, b"Example") else {
+        return WordKind::Other;
+    };
+    let found = tokens(alloc, &class, word.as_bytes());
+    kind_found(&found)
 }
 
 /// The reserved words that the profile has.
@@ -410,8 +422,10 @@ const RESERVED: [&str; 41] = [
 
 #[test]
 fn the_reserved_words_are_no_identifiers(rt: HostRuntime) -> Result<(), Fail> {
-    for word in RESERVED {
-        assert!(rt; kind_of(&rt, word.as_bytes()) == Some(TokenKind::Keyword));
+    for word in RESERVED.iter() {
+        if kind_of(rt.alloc(), word) != WordKind::Keyword {
+            return Err((*word).into());
+        }
     }
     Ok(())
 }
@@ -434,8 +448,10 @@ const LEFT_OUT: [&str; 12] = [
 
 #[test]
 fn the_words_left_out_are_faults_of_the_profile(rt: HostRuntime) -> Result<(), Fail> {
-    for word in LEFT_OUT {
-        assert!(rt; code_of(&rt, word.as_bytes()) == Some(FaultCode::Profile));
+    for word in LEFT_OUT.iter() {
+        if kind_of(rt.alloc(), word) != WordKind::LeftOut {
+            return Err((*word).into());
+        }
     }
     Ok(())
 }
@@ -452,28 +468,40 @@ const NO_UTF8: [(&[u8], &str); 6] = [
 
 #[test]
 fn a_byte_that_is_not_utf8_is_a_fault_at_its_place(rt: HostRuntime) -> Result<(), Fail> {
-    for (bytes, wanted) in NO_UTF8 {
+    for (bytes, wanted) in NO_UTF8.iter() {
         let line = shown(&rt, bytes)?;
-        assert_eq!(rt; line.as_slice(), wanted.as_bytes());
+        if line.as_slice() != wanted.as_bytes() {
+            return Err((*wanted).into());
+        }
     }
     Ok(())
 }
 
+/// Whether a numeral stands for this.
+fn is_numeral(alloc: Global, text: &str, wanted: Numeral) -> bool {
+    match from_utf8(alloc, text.as_bytes()) {
+        Ok(units) => !units.is_empty() && numeral_of(units.as_slice()) == wanted,
+        Err(_) => false,
+    }
+}
+
+/// Numerals with what they stand for.
+const NUMERALS: [(&str, Numeral); 7] = [
+    ("0x7f", Numeral::Value(127)),
+    ("0b1_01L", Numeral::Value(5)),
+    ("017", Numeral::Value(15)),
+    ("1_000", Numeral::Value(1000)),
+    ("0xFFFFFFFFFFFFFFFFL", Numeral::Value(u64::MAX)),
+    ("4294967296", Numeral::TooWide),
+    ("019", Numeral::Malformed),
+];
+
 #[test]
 fn numerals_stand_for_their_numbers(rt: HostRuntime) -> Result<(), Fail> {
-    let rows = [
-        ("0x7f", Numeral::Value(127)),
-        ("0b1_01L", Numeral::Value(5)),
-        ("017", Numeral::Value(15)),
-        ("1_000", Numeral::Value(1000)),
-        ("0xFFFFFFFFFFFFFFFFL", Numeral::Value(u64::MAX)),
-        ("4294967296", Numeral::TooWide),
-        ("019", Numeral::Malformed),
-    ];
-    for (text, wanted) in rows {
-        let units = from_utf8(rt.alloc(), text.as_bytes()).ok().ok_or(FAULT)?;
-        assert!(rt; !units.is_empty());
-        assert!(rt; numeral_of(units.as_slice()) == wanted);
+    for (text, wanted) in NUMERALS.iter() {
+        if !is_numeral(rt.alloc(), text, *wanted) {
+            return Err((*text).into());
+        }
     }
     Ok(())
 }
@@ -491,23 +519,41 @@ const LITERALS: [(&str, Option<u16>); 9] = [
     ("''", None),
 ];
 
-#[test]
-fn literals_stand_for_their_units(rt: HostRuntime) -> Result<(), Fail> {
-    for (text, wanted) in LITERALS {
-        let literal = from_utf8(rt.alloc(), text.as_bytes()).ok().ok_or(FAULT)?;
-        let value = char_value(rt.alloc(), literal.as_slice())
-            .ok()
-            .ok_or(FAULT)?;
-        assert!(rt; value == wanted);
+/// Whether a literal of a character stands for this unit, or for none.
+fn is_unit(alloc: Global, literal: &str, wanted: Option<u16>) -> bool {
+    match from_utf8(alloc, literal.as_bytes()) {
+        Ok(units) => char_value(alloc, units.as_slice()) == Ok(wanted),
+        Err(_) => false,
     }
-    let literal = from_utf8(rt.alloc(), b"\"a\\\"\\101\\60\"")
-        .ok()
-        .ok_or(FAULT)?;
-    let units = text_value(rt.alloc(), literal.as_slice())
-        .ok()
-        .ok_or(FAULT)?
-        .ok_or(FAULT)?;
-    let text = to_utf8(rt.alloc(), units.as_slice()).ok().ok_or(FAULT)?;
-    assert_eq!(rt; text.as_slice(), b"a\"A0".as_slice());
+}
+
+#[test]
+fn literals_of_characters_stand_for_their_units(rt: HostRuntime) -> Result<(), Fail> {
+    for (literal, wanted) in LITERALS.iter() {
+        if !is_unit(rt.alloc(), literal, *wanted) {
+            return Err((*literal).into());
+        }
+    }
     Ok(())
+}
+
+/// Whether a literal of a text stands for these units.
+fn stands_for(found: &Result<Option<JText>, NoMemory>, wanted: &[u16]) -> bool {
+    match found {
+        Ok(Some(units)) => units.as_slice() == wanted,
+        _ => false,
+    }
+}
+
+#[test]
+fn a_literal_of_a_text_stands_for_its_units(rt: HostRuntime) {
+    let alloc = rt.alloc();
+    let found = match from_utf8(alloc, b"\"a\\\"\\101\\60\"") {
+        Ok(literal) => {
+            let value = text_value(alloc, literal.as_slice());
+            stands_for(&value, &[97, 34, 65, 48])
+        }
+        Err(_) => false,
+    };
+    assert!(rt; found);
 }
