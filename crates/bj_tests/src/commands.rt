@@ -94,10 +94,22 @@ const LINES: [(&[u8], Wanted); 30] = [
     (b"  waits", Wanted::Bad(3)),
 ];
 
-/// The first of those lines that is read otherwise, counted from 0.
-fn first_misread(alloc: Global) -> Option<usize> {
-    for (row, (line, wanted)) in LINES.iter().enumerate() {
-        let read = read_line(alloc, line);
+/// Who reads lines.
+#[derive(Clone, Copy)]
+enum Console {
+    /// A bench.
+    Bench,
+    /// A codepad, which reads its own words.
+    Pad,
+}
+
+/// The first of these lines that a console reads otherwise, counted from 0.
+fn first_misread(alloc: Global, console: Console, rows: &[(&[u8], Wanted)]) -> Option<usize> {
+    for (row, (line, wanted)) in rows.iter().enumerate() {
+        let read = match console {
+            Console::Bench => read_line(alloc, line),
+            Console::Pad => read_pad_line(alloc, line),
+        };
         let is_so = is_read_so(&read, *wanted);
         dismiss(read);
         if !is_so {
@@ -109,10 +121,10 @@ fn first_misread(alloc: Global) -> Option<usize> {
 
 #[test]
 fn lines_of_a_bench_are_read_or_bad_at_a_place(rt: HostRuntime) {
-    assert_eq!(&rt; first_misread(rt.alloc()), None);
+    assert_eq!(&rt; first_misread(rt.alloc(), Console::Bench, &LINES), None);
 }
 
-/// Lines of a codepad, which reads its own words, with what each is read as.
+/// Lines of a codepad with what each is read as.
 const PAD_LINES: [(&[u8], Wanted); 11] = [
     (b"", Wanted::Blank),
     (b"  ", Wanted::Blank),
@@ -127,22 +139,9 @@ const PAD_LINES: [(&[u8], Wanted); 11] = [
     (b"quit now", Wanted::Bad(6)),
 ];
 
-/// The first of those lines that is read otherwise, counted from 0.
-fn first_misread_in_pad(alloc: Global) -> Option<usize> {
-    for (row, (line, wanted)) in PAD_LINES.iter().enumerate() {
-        let read = read_pad_line(alloc, line);
-        let is_so = is_read_so(&read, *wanted);
-        dismiss(read);
-        if !is_so {
-            return Some(row);
-        }
-    }
-    None
-}
-
 #[test]
 fn lines_of_a_codepad_are_read_or_bad_at_a_place(rt: HostRuntime) {
-    assert_eq!(&rt; first_misread_in_pad(rt.alloc()), None);
+    assert_eq!(&rt; first_misread(rt.alloc(), Console::Pad, &PAD_LINES), None);
 }
 
 /// Whether a line of so many `x` is bad at this place.
